@@ -1,37 +1,16 @@
 -- What a step of an agent tells: a check has a sense key of four bits, and no ORB ends with a status of management.
-use Rattle.std.proofs.Common.{◌≡◌, refl, subst, ℕ, ◌+◌, ◌*◌, ◌^◌, ◌==◌, ◌&&◌, not, nat_lt, Bool, true, false, cond, List, ◌++◌, length, Option, Some, None, Result, Ok, Err}
-use Rattle.rbc_disk.specs.declared.command.Need.{Need}
+use Rattle.sbp_world.proofs.Words.Std.{◌≡◌, refl, subst, ℕ, ◌+◌, ◌*◌, ◌^◌, ◌==◌, ◌&&◌, not, nat_lt, Bool, true, false, cond, List, ◌++◌, length, Option, Some, None, Result, Ok, Err}
+use Rattle.sbp_world.proofs.Words.Wire.{IsCheck, IsStatus}
+use Rattle.sbp_world.proofs.Words.Target.{Need, Outcome, PlainDisk, check_in, need_of, Told, Phase, ReadAhead, AgentStep, Move, Which, Main, Ahead, refusal, verdict, reads_table, Machine, is_ahead, plan_of, chunk_of, MayTell, quiet, asks, end_step, turn_step, reread_step, wait_step, follow_step, sent, next_read, orb_read, elements_read, table_read, data_step, data_grown, data_read, answer_chunk, answer_grown, chunk_written, advanced, with_outcome, ran_as, run_step, judged, judge_step, unread_buffer, passed_step, checked, check_step, ahead_of, served, ahead_lost, ahead_read, ahead_step, told_or, reply_step, main_lost, lost, lost_step}
+use Rattle.sbp_world.proofs.Words.Initiator.{FailCause, CommandOrb, OrbPointer, Null, At, StatusKind, Answer, payload_of, write_failure, pointer_at, PageFault, elements_of, first_fault, Read}
 use Rattle.rbc_disk.specs.declared.command.Need.TheVariants as needs
-use Rattle.rbc_disk.specs.declared.command.Outcome.{Outcome}
 use Rattle.rbc_disk.specs.declared.command.Outcome.TheVariants as outcomes
-use Rattle.rbc_disk.specs.Units.{PlainDisk}
-use Rattle.rbc_disk.specs.Runs.{check_in, need_of, Told}
 use Rattle.rbc_disk.proofs.KeyLemmas.{run_key}
-use Rattle.orb_layout.specs.declared.ask.FailCause.{FailCause}
-use Rattle.orb_layout.specs.declared.command.CommandOrb.{CommandOrb}
-use Rattle.orb_layout.specs.declared.pointer.OrbPointer.{OrbPointer}
-use Rattle.orb_layout.specs.declared.pointer.OrbPointer.TheVariants.{Null, At}
-use Rattle.orb_layout.specs.declared.status.StatusKind.{StatusKind}
 use Rattle.orb_layout.specs.declared.status.StatusKind.TheVariants as kinds
-use Rattle.orb_layout.specs.Replies.{Answer, payload_of, write_failure}
-use Rattle.orb_layout.specs.Pointers.{pointer_at}
-use Rattle.page_table.specs.declared.fault.PageFault.{PageFault}
-use Rattle.page_table.specs.Elements.{elements_of, first_fault}
-use Rattle.command_agent.specs.declared.phase.Phase.{Phase}
 use Rattle.command_agent.specs.declared.phase.Phase.TheVariants as phases
-use Rattle.command_agent.specs.declared.phase.ReadAhead.{ReadAhead}
 use Rattle.command_agent.specs.declared.phase.ReadAhead.TheVariants as aheads
-use Rattle.command_agent.specs.declared.step.AgentStep.{AgentStep}
-use Rattle.command_agent.specs.declared.step.Move.{Move}
 use Rattle.command_agent.specs.declared.step.Move.TheVariants as moves
-use Rattle.command_agent.specs.declared.step.Which.{Which}
-use Rattle.command_agent.specs.declared.step.Which.TheVariants.{Main, Ahead}
-use Rattle.command_agent.specs.Checks.{refusal, verdict, reads_table}
-use Rattle.command_agent.specs.Machine.{Machine, is_ahead, plan_of, chunk_of}
-use Rattle.command_agent.specs.Runs.{MayTell}
-use Rattle.command_agent.specs.Steps.{quiet, asks, end_step, turn_step, reread_step, wait_step, follow_step, sent, status_written, next_read, orb_read, elements_read, table_read, data_step, data_grown, data_read, answer_chunk, answer_step, answer_grown, chunk_written, advanced, with_outcome, ran_as, run_step, judged, judge_step, unread_buffer, passed_step, checked, check_step, ahead_of, served, ahead_lost, ahead_read, ahead_step, replied, told_or, reply_step, main_lost, lost, lost_step}
-use Rattle.orb_layout.specs.declared.ask.Ask.TheVariants.{Read}
-use Rattle.sbp_journal.specs.Form.{IsCheck, IsStatus}
+use Rattle.command_agent.specs.Steps.{status_written, answer_step, replied}
 
 -- ---- what is wanted of a step
 

@@ -1,14 +1,9 @@
 -- A status block that is read: a check has a sense key of four bits.
-use Rattle.std.proofs.Common.{◌≡◌, refl, ℕ, ◌/◌, ◌%◌, ◌^◌, ◌<◌, ◌==◌, ◌&&◌, nat_lt, Bool, true, false, cond, List, length, Option, Some, None, Result, Ok, Err}
-use Rattle.std.proofs.lemmas.Bool.{and_parts, ltb-true}
-use Rattle.sbp_base.specs.Quadlets.{quad}
-use Rattle.orb_layout.specs.declared.fault.OrbFault.{OrbFault}
+use Rattle.sbp_world.proofs.Words.Std.{◌≡◌, refl, ℕ, ◌/◌, ◌%◌, ◌^◌, ◌<◌, ◌==◌, ◌&&◌, nat_lt, Bool, true, false, cond, List, length, Option, Some, None, Result, Ok, Err, and_parts, ltb-true, quad}
+use Rattle.sbp_world.proofs.Words.Wire.{IsSense}
+use Rattle.sbp_world.proofs.Words.Initiator.{OrbFault, StatusBlock, StatusKind, command_kind, has, in_row, illegal_meanings, is_among, is_check_part, kind_of, management_meanings, read_block, sbp_status_of, sense_of, src_of, whole_length}
 use Rattle.orb_layout.specs.declared.fault.OrbFault.TheVariants as faults
-use Rattle.orb_layout.specs.declared.status.StatusBlock.{StatusBlock}
-use Rattle.orb_layout.specs.declared.status.StatusKind.{StatusKind}
 use Rattle.orb_layout.specs.declared.status.StatusKind.TheVariants as kinds
-use Rattle.orb_layout.specs.StatusBlocks.{command_kind, has, in_row, illegal_meanings, is_among, is_check_part, kind_of, management_meanings, read_block, sbp_status_of, sense_of, src_of, whole_length}
-use Rattle.sbp_journal.specs.Form.{IsSense}
 
 -- a check has a sense key of four bits
 abbrev pub IsKeyed : StatusKind → Type 0

@@ -1,30 +1,14 @@
 -- What the bus of a world does is what the world does by it. The fields of the world are seen one by one (`view`).
-use Rattle.std.specs.Prelude.{◌≡◌, ℕ, ◌+◌, ◌||◌, not, Bool, true, false, if◌then◌else◌, List, [], ◌∷◌, Option, Some, None, refl}
-use Rattle.std.proofs.Common.{◌∙◌, ap}
-use Rattle.async_packet.specs.Labels.{LabelParts}
-use Rattle.orb_list.specs.Tickets.{TicketParts}
-use Rattle.packet_store.specs.Kept.{is_flying}
-use Rattle.packet_store.specs.Stored.{deliver_step}
-use Rattle.sbp_bus.specs.Buses.{BusState}
+use Rattle.sbp_world.proofs.Words.Std.{if◌then◌else◌, ◌∙◌, ap}
+use Rattle.sbp_world.proofs.Words.Wire.{LabelParts, is_flying, deliver_step, BusState, judged_as, judged_note, no_packet, node_of, Judged, Note, Outgoing, OutboxState, Side}
+use Rattle.sbp_world.proofs.Words.Initiator.{TicketParts}
+use Rattle.sbp_world.proofs.Words.World.{marked, handed_out, reset_line, inject_line, injected, injected_to, lose_line, lost, refused, asked, posted, sent, sent_all, sent_to, ticket_in, told, told_all, WorldState, bus_of, with_bus, with_note}
+use Rattle.std.specs.Prelude.{◌≡◌, ℕ, ◌+◌, ◌||◌, not, Bool, true, false, List, [], ◌∷◌, Option, Some, None, refl}
 use Rattle.sbp_bus.specs.Buses as buses
-use Rattle.sbp_bus.specs.Packets.{judged_as, judged_note, no_packet}
 use Rattle.sbp_bus.specs.Packets as packets
 use Rattle.sbp_bus.specs.Sending as sending
 use Rattle.sbp_bus.specs.Telling as telling
-use Rattle.sbp_bus.specs.Generations.{node_of}
-use Rattle.sbp_journal.specs.declared.cause.Judged.{Judged}
-use Rattle.sbp_journal.specs.declared.note.Note.{Note}
-use Rattle.sbp_journal.specs.declared.outbox.Outgoing.{Outgoing}
-use Rattle.sbp_journal.specs.Outgoings.{OutboxState}
-use Rattle.sbp_journal.specs.declared.side.Side.{Side}
 use Rattle.sbp_journal.specs.declared.side.Side.TheVariants as sides
-use Rattle.sbp_world.specs.Delivering.{marked}
-use Rattle.sbp_world.specs.Handing.{handed_out}
-use Rattle.sbp_world.specs.Nodes.{reset_line}
-use Rattle.sbp_world.specs.Packets.{inject_line, injected, injected_to, lose_line, lost, refused}
-use Rattle.sbp_world.specs.Sending.{asked, posted, sent, sent_all, sent_to}
-use Rattle.sbp_world.specs.Telling.{ticket_in, told, told_all}
-use Rattle.sbp_world.specs.Worlds.{WorldState, bus_of, with_bus, with_note}
 
 pub noted_on : (note : Note) (view old : WorldState) (new : BusState) → view ≡ old → new ≡ buses.with_note note (bus_of view) → with_bus new view ≡ with_note note old
 noted_on note view old new v e = ap (λ b. with_bus b view) e ∙ ap (λ w. with_note note w) v

@@ -1,12 +1,7 @@
 -- What many proofs of this crate cite of truth values, numbers, options and lists, and of nothing else.
-use Rattle.std.proofs.Common.{arith, ◌≡◌, refl, sym, ap, ℕ, ◌<◌, ◌≤◌, nat_eq, nat_lt, ◌==◌, ◌&&◌, Bool, true, false, cond, List, [], ◌∷◌, ◌++◌, map, length, Option, Some, None}
-use Rattle.std.proofs.lemmas.Bool.{false≢true}
-use Rattle.std.proofs.lemmas.Bool.Decides.{nat_tests}
-use Rattle.std.proofs.lemmas.Option.{none-some}
-use Rattle.sbp_journal.specs.Run.{Moment, said}
-use Rattle.sbp_journal.specs.declared.note.Note.{Note}
-use Rattle.sbp_world.specs.Agents.Management.Terms.{DeliversMore}
-use Rattle.sbp_world.specs.Hosts.Runs.{more_deliveries}
+use Rattle.sbp_world.proofs.Words.Std.{arith, ◌≡◌, refl, sym, ap, ℕ, ◌<◌, ◌≤◌, nat_eq, nat_lt, ◌==◌, ◌&&◌, Bool, true, false, cond, List, [], ◌∷◌, ◌++◌, map, length, Option, Some, None, false≢true, nat_tests, none-some}
+use Rattle.sbp_world.proofs.Words.Wire.{Moment, said, Note}
+use Rattle.sbp_world.proofs.Words.World.{DeliversMore, more_deliveries}
 
 -- ---- what is not
 pub untrue : {A : Type 0} → false ≡ true → A

@@ -1,17 +1,9 @@
 -- A delivery as a whole, and a line.
-use Rattle.std.specs.Prelude.{◌≡◌, ℕ, Bool, true, false, List, [], ◌∷◌, Option, Result, Ok, Err, OnOk, refl}
-use Rattle.std.proofs.Common.{◌∙◌, ap, subst, sym}
-use Rattle.rbc_disk.specs.Disk.{Disk}
-use Rattle.rbc_disk.specs.Runs.{Told}
-use Rattle.sbp_journal.specs.declared.event.Event.{Event}
-use Rattle.sbp_journal.specs.Outgoings.{OutboxState}
-use Rattle.sbp_world.specs.declared.parts.delivering.Arrival.{Arrival}
-use Rattle.sbp_world.specs.Delivering.{Delivers, Receives, arrived_by, delivered, delivered_by, received_step}
-use Rattle.sbp_world.specs.Lines.{Happens, HappensTo, MayHappen, MayTellIn, happens, happens_to}
-use Rattle.sbp_bus.specs.Packets.{no_packet, end_note}
-use Rattle.sbp_world.specs.Packets.{Delivered, MayIf, Repeated, delivered_if, is_in_flight, may_repeat, refused}
-use Rattle.sbp_world.specs.Settling.{AreUpTo, DeliversUpTo, Settles, budget, is_settled, settled_from}
-use Rattle.sbp_world.specs.Worlds.{Scene, WorldState, begun, in_world, scene, with_note, without_notes}
+use Rattle.sbp_world.proofs.Words.Std.{OnOk, ◌∙◌, ap, subst, sym}
+use Rattle.sbp_world.proofs.Words.Wire.{Event, OutboxState, no_packet, end_note}
+use Rattle.sbp_world.proofs.Words.Target.{Disk, Told}
+use Rattle.sbp_world.proofs.Words.World.{Arrival, Delivers, Receives, arrived_by, delivered, delivered_by, received_step, Happens, HappensTo, MayHappen, MayTellIn, happens, happens_to, Delivered, MayIf, Repeated, delivered_if, is_in_flight, may_repeat, refused, AreUpTo, DeliversUpTo, Settles, budget, is_settled, settled_from, Scene, WorldState, begun, in_world, scene, with_note, without_notes}
+use Rattle.std.specs.Prelude.{◌≡◌, ℕ, Bool, true, false, List, [], ◌∷◌, Option, Result, Ok, Err, refl}
 
 -- ---- a delivery
 

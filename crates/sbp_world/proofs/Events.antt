@@ -1,13 +1,10 @@
 -- A line, by what its event is.
+use Rattle.sbp_world.proofs.Words.Std.{◌∙◌, ap, subst, sym}
+use Rattle.sbp_world.proofs.Words.Wire.{Event}
+use Rattle.sbp_world.proofs.Words.Target.{Disk}
+use Rattle.sbp_world.proofs.Words.World.{HappensTo, MayTellIn, happens_to, Delivered, Repeated, AreUpTo, DeliversUpTo, Settles, Scene, WorldState, scene}
 use Rattle.std.specs.Prelude.{◌≡◌, ℕ, Bool, List, [], refl}
-use Rattle.std.proofs.Common.{◌∙◌, ap, subst, sym}
-use Rattle.rbc_disk.specs.Disk.{Disk}
-use Rattle.sbp_journal.specs.declared.event.Event.{Event}
 use Rattle.sbp_journal.specs.declared.event.Event.TheVariants as events
-use Rattle.sbp_world.specs.Lines.{HappensTo, MayTellIn, happens_to}
-use Rattle.sbp_world.specs.Packets.{Delivered, Repeated}
-use Rattle.sbp_world.specs.Settling.{AreUpTo, DeliversUpTo, Settles}
-use Rattle.sbp_world.specs.Worlds.{Scene, WorldState, scene}
 use Rattle.sbp_world.proofs.Delivered.{happens_by}
 
 -- in which no packet is delivered

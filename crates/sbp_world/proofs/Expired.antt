@@ -1,14 +1,10 @@
 -- A request of the target expires.
+use Rattle.sbp_world.proofs.Words.Std.{◌∙◌, ap, subst}
+use Rattle.sbp_world.proofs.Words.Wire.{Stale, OutboxState, empty_outbox, Request}
+use Rattle.sbp_world.proofs.Words.Target.{Scene, scene, expired, Expires, ExpiresBy, TargetState}
+use Rattle.sbp_world.proofs.Words.World.{target_expired, target_left}
 use Rattle.std.specs.Prelude.{◌≡◌, true, false, Result, Ok, Err, refl}
-use Rattle.std.proofs.Common.{◌∙◌, ap, subst}
-use Rattle.label_table.specs.declared.reply.Stale.{Stale}
 use Rattle.sbp_journal.specs.declared.cause.TargetFault.TheVariants as faults
-use Rattle.sbp_journal.specs.Outgoings.{OutboxState, empty_outbox}
-use Rattle.sbp_target.specs.Nodes.{Scene, scene}
-use Rattle.sbp_target.specs.Receiving.{expired}
-use Rattle.sbp_target.specs.Targets.{Expires, ExpiresBy, TargetState}
-use Rattle.sbp_bus.specs.declared.requests.Request.{Request}
-use Rattle.sbp_world.specs.Packets.{target_expired, target_left}
 
 done_by : (step : Result (Unit {0}) Stale × Scene) (old new : TargetState) (before : Scene) (outbox : OutboxState) → ExpiresBy (Ok tt) step old before new outbox → (true, (outbox, new.node)) ≡ target_left step old.node
 done_by (Ok done, s) old new before outbox h = ap (λ (x : Scene). (true, (x.outbox, x.node))) h.0

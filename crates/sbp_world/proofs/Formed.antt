@@ -1,13 +1,9 @@
 -- What a node tells, where its note has the form of a journal; and what an initiator tells, which is notes of its own.
-use Rattle.std.proofs.Common.{Bool, true, false, cond, List, [], ◌∷◌, ◌++◌}
-use Rattle.std.specs.List.{AllByRecursion}
-use Rattle.rbc_disk.specs.Runs.{check_in}
-use Rattle.sbp_journal.specs.declared.note.Note.{Note}
+use Rattle.sbp_world.proofs.Words.Std.{Bool, true, false, cond, List, [], ◌∷◌, ◌++◌, AllByRecursion}
+use Rattle.sbp_world.proofs.Words.Wire.{Note, Side, HasForm, IsCheck, IsStatus, OutboxState}
+use Rattle.sbp_world.proofs.Words.Target.{check_in}
 use Rattle.sbp_journal.specs.declared.note.Note.TheVariants as notes
-use Rattle.sbp_journal.specs.declared.side.Side.{Side}
 use Rattle.sbp_journal.specs.declared.side.Side.TheVariants as sides
-use Rattle.sbp_journal.specs.Form.{HasForm, IsCheck, IsStatus}
-use Rattle.sbp_journal.specs.Outgoings.{OutboxState}
 
 abbrev pub IsFormed : Side → Type 0
 IsFormed (sides.Own note) = HasForm note

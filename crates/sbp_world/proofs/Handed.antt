@@ -1,9 +1,8 @@
 -- What is left to tell.
+use Rattle.sbp_world.proofs.Words.Std.{◌∙◌, ap, sym}
+use Rattle.sbp_world.proofs.Words.Wire.{Side}
+use Rattle.sbp_world.proofs.Words.World.{told, told_all, WorldState}
 use Rattle.std.specs.Prelude.{◌≡◌, ℕ, List, [], ◌∷◌, refl}
-use Rattle.std.proofs.Common.{◌∙◌, ap, sym}
-use Rattle.sbp_journal.specs.declared.side.Side.{Side}
-use Rattle.sbp_world.specs.Telling.{told, told_all}
-use Rattle.sbp_world.specs.Worlds.{WorldState}
 
 told_one : (weight : ℕ) (side : Side) (later : List Side) (w : WorldState) → told_all weight later (told weight side w) ≡ told_all weight (side ∷ later) w
 unfolding told_all

@@ -1,44 +1,17 @@
 -- The notes of a line have the form of a journal.
-use Rattle.std.proofs.Common.{◌≡◌, refl, sym, subst, ℕ, ◌+◌, ◌-◌, ◌==◌, nat_lt, Bool, true, false, cond, List, [], ◌∷◌, length, slice_index_or, Option, Some, None, Result, Ok, Err}
-use Rattle.std.specs.List.{AllByRecursion}
-use Rattle.label_table.specs.declared.reply.Stale.{Stale}
-use Rattle.packet_store.specs.declared.sent.Sent.{Sent}
-use Rattle.packet_store.specs.Kept.{found_sent}
-use Rattle.rbc_disk.specs.Held.{Held}
-use Rattle.rbc_disk.specs.Runs.{Told}
-use Rattle.sbp_initiator.specs.declared.state.InitiatorState.{InitiatorState}
-use Rattle.sbp_initiator.specs.Acting.{act_step}
-use Rattle.sbp_initiator.specs.Initiators.{new_state}
-use Rattle.sbp_initiator.specs.Receiving.{expire_step, receive_step}
-use Rattle.sbp_initiator.specs.Seeing.{see_step}
-use Rattle.sbp_journal.specs.declared.cause.Judged.{Judged}
+use Rattle.sbp_world.proofs.Words.Std.{◌≡◌, refl, sym, subst, ℕ, ◌+◌, ◌-◌, ◌==◌, nat_lt, Bool, true, false, cond, List, [], ◌∷◌, length, Option, Some, None, Result, Ok, Err, AllByRecursion}
+use Rattle.sbp_world.proofs.Words.Wire.{Stale, Sent, found_sent, Judged, Action, Event, HasForm, OutboxState, empty_outbox, Request, judged_note, no_packet, end_note, id_of, find}
+use Rattle.sbp_world.proofs.Words.Target.{Held, Told, NodeState, expired, received, Whole}
+use Rattle.sbp_world.proofs.Words.Initiator.{InitiatorState, act_step, new_state, expire_step, receive_step, see_step}
+use Rattle.sbp_world.proofs.Words.World.{Arrival, MayAt, MayReceive, MayTell, MayTold, arrived, arrived_by, at_none, at_target, delivered, delivered_by, faults_after, initiator_received, initiators_received, left_target, listed, marked, received_by, received_step, target_received, whole_of, AreForms, FormLaw, HaveForm, MayHappen, MayTellIn, acted, acted_by, happens, happens_to, keyed, weight_in, new_world, handed_all, initiator_learns, reset_line, see_line, sees, target_learns, target_sees, target_ticks, tick_line, told_seen, with_seen, MayIf, delivered_if, expires, initiator_expires, inject_line, injected, injected_to, is_in_flight, lose_line, lost, may_repeat, refused, target_expired, target_left, timed_out, timeout_line, timeout_of, AreEntries, Entry, after, beginning, MayAll, MayNext, MayAtLowest, after_all, delivered_at, delivered_next, is_settled, lowest, settled, Scene, WorldState, begun, initiator_at, with_initiator, with_note}
+use Rattle.std.proofs.Common.{slice_index_or}
 use Rattle.sbp_journal.specs.declared.cause.Judged.TheVariants as judgements
-use Rattle.sbp_journal.specs.declared.event.Action.{Action}
-use Rattle.sbp_journal.specs.declared.event.Event.{Event}
 use Rattle.sbp_journal.specs.declared.event.Event.TheVariants as events
 use Rattle.sbp_journal.specs.declared.note.Note.TheVariants as notes
-use Rattle.sbp_journal.specs.Form.{HasForm}
-use Rattle.sbp_journal.specs.Outgoings.{OutboxState, empty_outbox}
-use Rattle.sbp_target.specs.Nodes.{NodeState}
 use Rattle.sbp_target.specs.Nodes as target
-use Rattle.sbp_target.specs.Receiving.{expired, received}
-use Rattle.sbp_target.specs.Replies.{Whole}
-use Rattle.sbp_world.specs.declared.parts.delivering.Arrival.{Arrival}
-use Rattle.sbp_bus.specs.declared.requests.Request.{Request}
-use Rattle.sbp_bus.specs.Packets.{judged_note, no_packet, end_note}
-use Rattle.sbp_world.specs.Delivering.{MayAt, MayReceive, MayTell, MayTold, arrived, arrived_by, at_initiator, at_none, at_target, delivered, delivered_by, faults_after, initiator_received, initiators_received, left_target, listed, marked, received_by, received_step, target_received, whole_of}
-use Rattle.sbp_world.specs.Forms.{AreForms, FormLaw, HaveForm}
-use Rattle.sbp_bus.specs.Generations.{id_of}
-use Rattle.sbp_world.specs.Lines.{MayHappen, MayTellIn, acted, acted_by, happens, happens_to, keyed, weight_in}
-use Rattle.sbp_world.specs.Making.{new_world}
-use Rattle.sbp_world.specs.Nodes.{handed_all, initiator_learns, reset_line, see_line, sees, target_learns, target_sees, target_ticks, tick_line, told_seen, with_seen}
+use Rattle.sbp_world.specs.Delivering.{at_initiator}
 use Rattle.sbp_world.specs.Nodes as nodes
 use Rattle.sbp_world.specs.Packets as packets
-use Rattle.sbp_world.specs.Packets.{MayIf, delivered_if, expires, initiator_expires, inject_line, injected, injected_to, is_in_flight, lose_line, lost, may_repeat, refused, target_expired, target_left, timed_out, timeout_line, timeout_of}
-use Rattle.sbp_bus.specs.Requests.{find}
-use Rattle.sbp_world.specs.Runs.{AreEntries, Entry, after, beginning}
-use Rattle.sbp_world.specs.Settling.{MayAll, MayNext, MayAt as MayAtLowest, after_all, delivered_at, delivered_next, is_settled, lowest, settled}
-use Rattle.sbp_world.specs.Worlds.{Scene, WorldState, begun, initiator_at, with_initiator, with_note}
 use Rattle.sbp_world.proofs.Formed.{AreFormed, own_formed}
 use Rattle.sbp_world.proofs.InitiatorForms as initiators
 use Rattle.sbp_world.proofs.TargetForms as target_forms

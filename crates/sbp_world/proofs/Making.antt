@@ -1,9 +1,8 @@
 -- The initiators at the start, one after the other.
+use Rattle.sbp_world.proofs.Words.Std.{arith, common_steps}
+use Rattle.sbp_world.proofs.Words.Initiator.{new_state}
+use Rattle.sbp_world.proofs.Words.World.{new_initiators}
 use Rattle.std.specs.Prelude.{◌≡◌, ℕ, zero, suc, Bool, [], ◌∷◌, ◌++◌, length, refl}
-use Rattle.std.proofs.Common.{arith}
-use Rattle.std.proofs.lemmas.Grind.{common_steps}
-use Rattle.sbp_initiator.specs.Initiators.{new_state}
-use Rattle.sbp_world.specs.Making.{new_initiators}
 
 pub initiators_none : (n : ℕ) (ready : Bool) → n ≡ zero → new_initiators n ready ≡ []
 unfolding new_initiators

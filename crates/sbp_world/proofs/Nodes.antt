@@ -1,10 +1,9 @@
 -- The target as it sees a generation, and as a second passes.
+use Rattle.sbp_world.proofs.Words.Std.{◌∙◌, ap}
+use Rattle.sbp_world.proofs.Words.Wire.{OutboxState, empty_outbox}
+use Rattle.sbp_world.proofs.Words.Target.{NodeState, scene, seen, ticked}
+use Rattle.sbp_world.proofs.Words.World.{pair_of, target_sees, target_ticks}
 use Rattle.std.specs.Prelude.{◌≡◌, ℕ}
-use Rattle.std.proofs.Common.{◌∙◌, ap}
-use Rattle.sbp_journal.specs.Outgoings.{OutboxState, empty_outbox}
-use Rattle.sbp_target.specs.Nodes.{NodeState, scene}
-use Rattle.sbp_target.specs.Receiving.{seen, ticked}
-use Rattle.sbp_world.specs.Nodes.{pair_of, target_sees, target_ticks}
 
 pub target_saw : (generation id : ℕ) (old new : NodeState) (first outbox : OutboxState) → first ≡ empty_outbox → scene new outbox ≡ (seen generation id (scene old first)).1 → (outbox, new) ≡ target_sees generation id old
 unfolding target_sees

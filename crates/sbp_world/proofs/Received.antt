@@ -1,27 +1,13 @@
 -- A packet at its node.
-use Rattle.std.specs.Prelude.{◌≡◌, ℕ, ◌-◌, ◌==◌, nat_lt, Bool, true, false, if◌then◌else◌, List, length, Option, Some, None, refl}
-use Rattle.std.proofs.Common.{◌∙◌, ap, subst, sym}
-use Rattle.async_packet.specs.Labels.{LabelParts}
-use Rattle.async_packet.specs.Packet.{header_in}
-use Rattle.command_agent.specs.declared.step.Which.{Which}
-use Rattle.label_table.specs.Layer.{Finding, of_generation, of_grammar, of_label, of_response, of_again, of_request}
-use Rattle.login_table.specs.declared.login.Login.{Login}
-use Rattle.orb_layout.specs.Replies.{Answer}
-use Rattle.packet_store.specs.declared.sent.Sent.{Sent}
-use Rattle.packet_store.specs.Kept.{found_sent}
-use Rattle.rbc_disk.specs.Held.{Held, held}
-use Rattle.rbc_disk.specs.Runs.{Told}
-use Rattle.sbp_initiator.specs.declared.state.InitiatorState.{InitiatorState}
-use Rattle.sbp_journal.specs.declared.cause.Judged.{Judged}
-use Rattle.sbp_journal.specs.Outgoings.{OutboxState, empty_outbox}
-use Rattle.sbp_target.specs.declared.purpose.Purpose.{Purpose}
+use Rattle.sbp_world.proofs.Words.Std.{if◌then◌else◌, ◌∙◌, ap, subst, sym}
+use Rattle.sbp_world.proofs.Words.Wire.{LabelParts, header_in, Finding, of_generation, of_grammar, of_label, of_response, of_again, of_request, Sent, found_sent, Judged, OutboxState, empty_outbox}
+use Rattle.sbp_world.proofs.Words.Target.{Which, Login, Held, Told, Purpose, which_in, NodeState, desk_at, scene, TargetStep, TellsAt, TellsIn, answer_in, received, Stage, TellsBy, Whole, served_login, stage, whole}
+use Rattle.sbp_world.proofs.Words.Initiator.{Answer, InitiatorState}
+use Rattle.sbp_world.proofs.Words.World.{MayAt, MayReceive, MayTell, MayTold, Receives, TargetReceives, arrival, at_none, at_target, faults_after, faults_at, faults_by, faults_in, initiator_received, initiators_received, judged_target, with_initiators, left_target, received_at, received_by, received_step, target_received, whole_of, Scene, in_world, with_target}
+use Rattle.std.specs.Prelude.{◌≡◌, ℕ, ◌-◌, ◌==◌, nat_lt, Bool, true, false, List, length, Option, Some, None, refl}
+use Rattle.rbc_disk.specs.Held.{held}
 use Rattle.sbp_target.specs.declared.purpose.Purpose.TheVariants as purposes
-use Rattle.sbp_target.specs.Desks.{which_in}
-use Rattle.sbp_target.specs.Nodes.{NodeState, desk_at, scene}
-use Rattle.sbp_target.specs.Receiving.{Receives as TargetStep, TellsAt, TellsIn, answer_in, received}
-use Rattle.sbp_target.specs.Replies.{Stage, TellsBy, Whole, served_login, stage, whole}
-use Rattle.sbp_world.specs.Delivering.{MayAt, MayReceive, MayTell, MayTold, Receives, TargetReceives, arrival, at_initiator, at_none, at_target, faults_after, faults_at, faults_by, faults_in, initiator_received, initiators_received, judged_target, with_initiators, left_target, received_at, received_by, received_step, target_received, whole_of}
-use Rattle.sbp_world.specs.Worlds.{Scene, in_world, with_target}
+use Rattle.sbp_world.specs.Delivering.{at_initiator}
 
 -- ---- the counts of faults
 

@@ -1,10 +1,9 @@
 -- Deliveries one after the other: so many, until none is in flight, or until they are spent.
+use Rattle.sbp_world.proofs.Words.Std.{arith, subst, sym}
+use Rattle.sbp_world.proofs.Words.Target.{Told}
+use Rattle.sbp_world.proofs.Words.World.{Delivers, delivered, DeliversAll, DeliversUpTo, MayNext, delivered_at, delivered_next, lowest, Scene}
 use Rattle.std.specs.Prelude.{◌≡◌, ℕ, ◌+◌, ◌≤◌, [], ◌∷◌, Option, Some, None, false, refl}
-use Rattle.std.proofs.Common.{arith, subst, sym}
-use Rattle.rbc_disk.specs.Runs.{Told}
-use Rattle.sbp_world.specs.Delivering.{Delivers, delivered}
-use Rattle.sbp_world.specs.Settling.{DeliversAll, DeliversUpTo, MayAt, MayNext, delivered_at, delivered_next, lowest}
-use Rattle.sbp_world.specs.Worlds.{Scene}
+use Rattle.sbp_world.specs.Settling.{MayAt}
 
 pub all_none : (s : Scene) → DeliversAll 0 s s
 all_none s = record { told = []; count = refl; is = refl; may = tt }

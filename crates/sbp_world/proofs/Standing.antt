@@ -1,13 +1,10 @@
 -- A world goes on with a run.
+use Rattle.sbp_world.proofs.Words.Std.{◌∙◌, ap, subst}
+use Rattle.sbp_world.proofs.Words.Wire.{Event}
+use Rattle.sbp_world.proofs.Words.Target.{Told}
+use Rattle.sbp_world.proofs.Words.World.{MayHappen, happens, BeginsLaw, GoesOnLaw, Run, SettlesLaw, StandsFor, entry, with_entry, AreUpTo, budget, settled, Scene, begun}
 use Rattle.std.specs.Prelude.{◌≡◌, ℕ, List, Option, refl}
-use Rattle.std.proofs.Common.{◌∙◌, ap, subst}
-use Rattle.rbc_disk.specs.Runs.{Told}
-use Rattle.sbp_journal.specs.declared.event.Event.{Event}
 use Rattle.sbp_journal.specs.declared.event.Event.TheVariants as events
-use Rattle.sbp_world.specs.Lines.{MayHappen, happens}
-use Rattle.sbp_world.specs.Runs.{BeginsLaw, GoesOnLaw, Run, SettlesLaw, StandsFor, entry, with_entry}
-use Rattle.sbp_world.specs.Settling.{AreUpTo, budget, settled}
-use Rattle.sbp_world.specs.Worlds.{Scene, begun}
 
 pub begins : BeginsLaw
 begins initiators ready units start = record { state = refl; lines = tt }

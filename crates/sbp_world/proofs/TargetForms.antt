@@ -1,21 +1,11 @@
 -- What the target tells in each call: its notes have the form of a journal.
-use Rattle.std.proofs.Common.{subst, ℕ, List, Option, Some, None}
-use Rattle.async_packet.specs.Labels.{LabelParts}
-use Rattle.async_packet.specs.Packet.{header_in}
-use Rattle.label_table.specs.Layer.{Finding, judging_step, of_again, of_generation, of_grammar, of_label, of_request, of_response}
-use Rattle.login_table.specs.declared.login.Login.{Login}
-use Rattle.orb_layout.specs.Replies.{Answer}
-use Rattle.rbc_disk.specs.Runs.{Told}
-use Rattle.command_agent.specs.declared.step.Which.{Which}
-use Rattle.sbp_journal.specs.declared.side.Side.{Side}
-use Rattle.sbp_target.specs.declared.purpose.Purpose.{Purpose}
+use Rattle.sbp_world.proofs.Words.Std.{subst, ℕ, List, Option, Some, None}
+use Rattle.sbp_world.proofs.Words.Wire.{LabelParts, header_in, Finding, judging_step, of_again, of_generation, of_grammar, of_label, of_request, of_response, Side}
+use Rattle.sbp_world.proofs.Words.Target.{Login, Told, Which, Purpose, which_in, FitsAt, FitsBy, FitsIn, Moves, fitting, announced, back, cleared, departed, died, ended, failed, lapsed, managed, opened, plain, ran, unsent, was_cut, Scene, desk_at, TellsAt, TellsIn, answer_in, expired, received, seen, ticked, with_layer, Stage, TellsBy, Whole, agent_step, plain_at, scene_of, served_login, stage}
+use Rattle.sbp_world.proofs.Words.Initiator.{Answer}
 use Rattle.sbp_target.specs.declared.purpose.Purpose.TheVariants as purposes
-use Rattle.sbp_target.specs.Desks.{which_in}
-use Rattle.sbp_target.specs.Histories.Moves.{FitsAt, FitsBy, FitsIn, Moves, fitting}
-use Rattle.sbp_target.specs.Histories.Moves.{Tells as MayTell, announced, back, cleared, departed, died, ended, failed, held, lapsed, managed, opened, plain, ran, unsent, was_cut}
-use Rattle.sbp_target.specs.Nodes.{Scene, desk_at}
-use Rattle.sbp_target.specs.Receiving.{TellsAt, TellsIn, answer_in, expired, received, seen, ticked, with_layer}
-use Rattle.sbp_target.specs.Replies.{Stage, Tells, TellsBy, Whole, agent_step, plain_at, scene_of, served_login, stage}
+use Rattle.sbp_target.specs.Histories.Moves.{Tells as MayTell, held}
+use Rattle.sbp_target.specs.Replies.{Tells}
 use Rattle.sbp_target.proofs.Histories.Views.{expired_by, received_by, seen_by, sides_kept, ticked_by}
 use Rattle.sbp_world.proofs.Formed.{AreFormed, IsFormed, more}
 use Rattle.sbp_world.proofs.AgentForms.{FitsEnd, FitsRun, IsFit, lost_fits, reply_fits}

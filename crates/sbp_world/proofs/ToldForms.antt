@@ -1,20 +1,9 @@
 -- What nodes hand out, as notes in the form of a journal.
-use Rattle.std.proofs.Common.{◌≡◌, refl, ℕ, ◌+◌, ◌==◌, ◌&&◌, is_some, Bool, true, false, cond, List, [], ◌∷◌, Option, Some, None}
-use Rattle.async_packet.specs.Labels.{LabelParts}
-use Rattle.sbp_journal.specs.declared.operation.FunctionWord.{FunctionWord}
+use Rattle.sbp_world.proofs.Words.Std.{◌≡◌, refl, ℕ, ◌+◌, ◌==◌, ◌&&◌, is_some, Bool, true, false, cond, List, [], ◌∷◌, Option, Some, None}
+use Rattle.sbp_world.proofs.Words.Wire.{LabelParts, FunctionWord, Outgoing, Side, IsDecision, OutboxState, node_of, function_word, login_if}
+use Rattle.sbp_world.proofs.Words.World.{HaveForm, handed_out, asked, posted, sent, sent_all, sent_to, told, told_all, WorldState}
 use Rattle.sbp_journal.specs.declared.operation.FunctionWord.TheVariants as functions
-use Rattle.sbp_journal.specs.declared.outbox.Outgoing.{Outgoing}
-use Rattle.sbp_journal.specs.declared.side.Side.{Side}
 use Rattle.sbp_journal.specs.declared.side.Side.TheVariants as sides
-use Rattle.sbp_journal.specs.Form.{IsDecision}
-use Rattle.sbp_journal.specs.Outgoings.{OutboxState}
-use Rattle.sbp_world.specs.Forms.{HaveForm}
-use Rattle.sbp_bus.specs.Generations.{node_of}
-use Rattle.sbp_world.specs.Handing.{handed_out}
-use Rattle.sbp_world.specs.Sending.{asked, posted, sent, sent_all, sent_to}
-use Rattle.sbp_world.specs.Telling.{told, told_all}
-use Rattle.sbp_bus.specs.Words.{function_word, login_if}
-use Rattle.sbp_world.specs.Worlds.{WorldState}
 use Rattle.sbp_world.proofs.Formed.{AreFormed, IsFormed}
 
 decided_if : (b : Bool) (login : ℕ) → is_some (cond b (Some login) None) ≡ (true && b)

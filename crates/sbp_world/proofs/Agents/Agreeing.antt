@@ -1,76 +1,24 @@
 -- After each turn of the target the terms have its registers enabled.
-use Rattle.std.proofs.Common.{arith, ◌≡◌, ◌∙◌, refl, sym, ap, subst, ℕ, ◌+◌, ◌<◌, ◌≤◌, not, nat_eq, nat_lt, is_some, Bool, true, false, cond, List, [], ◌∷◌, length, map, replicate, Option, Some, None, Result, Ok, Err}
-use Rattle.std.specs.Prelude.{slice_index_or, slice_set, unwrap_or}
-use Rattle.std.proofs.Math.ListN.{get_or-map}
-use Rattle.std.proofs.lemmas.Bool.Decides.{nat_tests}
-use Rattle.std.proofs.lemmas.Grind.{common_steps}
-use Rattle.std.proofs.lemmas.List.{length-set, set_past}
-use Rattle.std.proofs.lemmas.Bool.{false≢true}
-use Rattle.async_packet.specs.Labels.{LabelParts}
-use Rattle.async_packet.specs.Packet.{Packet, header_in, lock, lock_response, read_block, read_block_response, read_quadlet, read_quadlet_response, write_block, write_quadlet, write_response}
-use Rattle.async_packet.specs.Reading.{reading}
-use Rattle.bus_transactions.specs.Wire.{Node, as_sending}
+use Rattle.sbp_world.proofs.Words.Std.{arith, ◌≡◌, ◌∙◌, refl, sym, ap, subst, ℕ, ◌+◌, ◌<◌, ◌≤◌, not, nat_eq, nat_lt, is_some, Bool, true, false, cond, List, [], ◌∷◌, length, map, replicate, Option, Some, None, Result, Ok, Err, slice_index_or, slice_set, unwrap_or, get_or-map, nat_tests, common_steps, set_past, false≢true}
+use Rattle.sbp_world.proofs.Words.Wire.{LabelParts, Packet, header_in, lock, lock_response, read_block, read_block_response, read_quadlet, read_quadlet_response, write_block, write_quadlet, write_response, reading, Node, as_sending, ReplyKind, Stale, Finding, Layer, expiring_step, judging_step, of_again, of_generation, of_grammar, of_label, of_request, of_response, seeing_step, seen_in_generation, reply_kind, Sent, found_sent, Holder, id_of, judged_note, holder_at, or_nobody, function_word, Access, access_of, Moment, said, Kind, part_of, request, Terms, begun_in, gets, ignores_that, terms, times_out, Cause, Judged, FunctionWord, empty_outbox}
+use Rattle.sbp_world.proofs.Words.Target.{Login, Table, find, is_of_node, place_at, tick_step, Disk, Held, Told, Decision, Effect, ManagerStep, AgentAccess, Demand, demand_of, Desk, Purpose, alone, lets_expire, sees, ticks, disabled, new_desk, manage, managed_in, managed_with, NodeState, Scene, desk_at, login_at, scene, with_desk, answer_in, cleared_node, concluded, expired, expired_in, held_all, judged_scene, received, received_as, reset_by, seen, ticked, timed_out, with_layer, Whole, replied_to, scene_of, whole, cut_all, accessed_by, answered, enabled, is_barred, serve, served_as, start_operation}
+use Rattle.sbp_world.proofs.Words.Initiator.{Nothing, Answer, Expired}
+use Rattle.sbp_world.proofs.Words.Laws.{access_at, answered_at, id_for, Target, got_by, known_at, over, is_serial, place_on, laws_replied, request_got, reset_seen, target_at}
+use Rattle.sbp_world.proofs.Words.World.{marked, whole_of, handed_out, told_seen, with_seen, holder, told_all, WorldState, with_note, with_target, Office, by_sides, enabled_by, AreLive, AreTermsOf, AreHeldAt}
+use Rattle.std.proofs.lemmas.List.{length-set}
 use Rattle.bus_transactions.proofs.PacketParts.{PartOf, asks, part_case, part_read, replies}
-use Rattle.label_table.specs.declared.reply.ReplyKind.{ReplyKind}
-use Rattle.label_table.specs.declared.reply.Stale.{Stale}
-use Rattle.label_table.specs.Layer.{Finding, Layer, expiring_step, judging_step, of_again, of_generation, of_grammar, of_label, of_request, of_response, seeing_step, seen_in_generation}
-use Rattle.label_table.specs.Requests.{reply_kind}
 use Rattle.label_table.proofs.Owned.{set_at}
-use Rattle.login_table.specs.declared.login.Login.{Login}
-use Rattle.login_table.specs.Table.{Table, find, is_of_node, place_at, tick_step}
-use Rattle.packet_store.specs.declared.sent.Sent.{Sent}
-use Rattle.packet_store.specs.Kept.{found_sent}
-use Rattle.rbc_disk.specs.Disk.{Disk}
-use Rattle.rbc_disk.specs.Held.{Held}
-use Rattle.rbc_disk.specs.Runs.{Told}
-use Rattle.mgmt_agent.specs.declared.decision.Decision.{Decision}
-use Rattle.mgmt_agent.specs.declared.decision.Effect.{Effect}
 use Rattle.mgmt_agent.specs.declared.decision.Effect.TheVariants as effects
-use Rattle.mgmt_agent.specs.declared.decision.ManagerStep.{ManagerStep}
 use Rattle.mgmt_agent.specs.Machine as management
-use Rattle.orb_layout.specs.declared.ask.Ask.TheVariants.{Nothing}
-use Rattle.orb_layout.specs.Replies.{Answer, Expired}
-use Rattle.sbp_bus.specs.declared.places.Holder.{Holder}
-use Rattle.sbp_bus.specs.Generations.{id_of}
-use Rattle.sbp_bus.specs.Packets.{judged_note}
-use Rattle.sbp_bus.specs.Places.{holder_at, or_nobody}
-use Rattle.sbp_bus.specs.Words.{function_word}
-use Rattle.sbp_journal.specs.Addresses.{Access, access_of}
-use Rattle.sbp_journal.specs.Run.{Moment, said}
-use Rattle.sbp_journal.specs.Transactions.{Kind, part_of, request}
-use Rattle.sbp_journal.specs.Wire.{Terms, begun_in, gets, ignores_that, terms, times_out}
-use Rattle.sbp_journal.specs.declared.cause.Cause.{Cause}
 use Rattle.sbp_journal.specs.declared.cause.Cause.TheVariants as ignored
-use Rattle.sbp_journal.specs.declared.cause.Judged.{Judged}
 use Rattle.sbp_journal.specs.declared.cause.Judged.TheVariants as judgements
 use Rattle.sbp_journal.specs.declared.cause.CutCause.TheVariants as cuts
 use Rattle.sbp_journal.specs.declared.note.Note.TheVariants as notes
-use Rattle.sbp_journal.specs.declared.operation.FunctionWord.{FunctionWord}
-use Rattle.sbp_journal.specs.Outgoings.{empty_outbox}
 use Rattle.sbp_laws.specs.Packets as laws
-use Rattle.sbp_laws.specs.Packets.{access_at, answered_at, id_for}
-use Rattle.sbp_laws.specs.Targets.{Target, got_by, known_at, over, is_serial, place_on, replied as laws_replied, request_got, reset_seen, target_at}
-use Rattle.target_base.specs.declared.address.Access.{Access as AgentAccess}
 use Rattle.target_base.specs.declared.address.Access.TheVariants as accesses
-use Rattle.target_base.specs.declared.address.Demand.{Demand}
 use Rattle.target_base.specs.declared.address.Demand.TheVariants as demands
-use Rattle.target_base.specs.Addresses.{demand_of}
-use Rattle.sbp_target.specs.declared.desk.Desk.{Desk}
-use Rattle.sbp_target.specs.declared.purpose.Purpose.{Purpose}
 use Rattle.sbp_target.specs.declared.purpose.Purpose.TheVariants as purposes
-use Rattle.sbp_target.specs.Calls.{alone, lets_expire, sees, ticks}
-use Rattle.sbp_target.specs.Desks.{disabled, new_desk}
-use Rattle.sbp_target.specs.Management.{manage, managed_in, managed_with}
-use Rattle.sbp_target.specs.Nodes.{NodeState, Scene, desk_at, login_at, scene, with_desk}
-use Rattle.sbp_target.specs.Receiving.{answer_in, cleared_node, concluded, expired, expired_in, held_all, judged_scene, received, received_as, reset_by, seen, ticked, timed_out, with_layer}
-use Rattle.sbp_target.specs.Replies.{Whole, replied_to, scene_of, whole}
-use Rattle.sbp_target.specs.Units.{cut_all}
-use Rattle.sbp_target.specs.Serving.{accessed_by, answered, enabled, is_barred, request_step, serve, served_as, start as start_operation}
-use Rattle.sbp_world.specs.Delivering.{marked, whole_of}
-use Rattle.sbp_world.specs.Handing.{handed_out}
-use Rattle.sbp_world.specs.Nodes.{told_seen, with_seen}
-use Rattle.sbp_world.specs.Telling.{holder, told_all}
-use Rattle.sbp_world.specs.Worlds.{WorldState, with_note, with_target}
+use Rattle.sbp_target.specs.Serving.{request_step}
 use Rattle.sbp_world.proofs.Wire.Bus.{aged, holds}
 use Rattle.sbp_world.proofs.Wire.Nodes.{handed_alike, marked_alike}
 use Rattle.sbp_target.proofs.Histories.Calling.{Good}
@@ -79,12 +27,8 @@ use Rattle.sbp_world.proofs.Agents.Management.Firsts.{got_here, wire_is}
 use Rattle.sbp_world.proofs.Agents.Management.Hearing.{answers_none}
 use Rattle.sbp_world.proofs.Agents.Management.Holding.{Holding, good_of, marked_hist, target_generation, was_sent}
 use Rattle.sbp_world.proofs.Agents.Management.Still.{gets_clock, hist, ignores_still, lapses_clock}
-use Rattle.sbp_world.specs.Agents.Management.Offices.{Office, by_sides}
 use Rattle.sbp_world.proofs.Agents.Management.Places.{AreApart, sound_apart}
 use Rattle.sbp_world.proofs.Agents.Management.Told.{all_sides, office_in, term_in}
-use Rattle.sbp_world.specs.Agents.Demands.{enabled_by}
-use Rattle.sbp_world.specs.Agents.Enabled.{AreLive, AreTermsOf}
-use Rattle.sbp_world.specs.Agents.Holders.{AreHeldAt}
 use Rattle.sbp_world.proofs.Agents.Ceasing.{AreExpiring, AreMute, IsFree, cuts_all, expired_ends, expired_tell, expiring_disable, held_tell, keeping, manager_ends, manager_logins, manager_tells, mute_keeps, muted, start_tells}
 use Rattle.sbp_world.proofs.Agents.Demands.{demands_law}
 use Rattle.sbp_world.proofs.Agents.Disabling.{AreDisabling, Keeps, all_behind, all_length, all_disabled, all_still, enabled_in, over_same, reply_keeps, request_table, sides_disabled, wire_in}

@@ -1,36 +1,18 @@
 -- Unsolicited statuses that leave behind a step of an agent are none of its requests.
-use Rattle.std.proofs.Common.{arith, ◌≡◌, ◌≢◌, ◌∙◌, refl, sym, ap, ℕ, ◌<◌, nat_eq, Bool, true, false, cond, List, length, Option, Some, None}
-use Rattle.std.specs.Prelude.{slice_index_or, slice_set}
-use Rattle.std.proofs.Math.ListN.{length-set}
-use Rattle.std.proofs.lemmas.Bool.Decides.{nat_tests}
-use Rattle.label_table.specs.declared.judgement.Asked.{Asked}
-use Rattle.label_table.specs.Bodies.{block_write}
-use Rattle.label_table.specs.Layer.{Layer, asking_step}
-use Rattle.label_table.specs.Requests.{is_write}
+use Rattle.sbp_world.proofs.Words.Std.{arith, ◌≡◌, ◌≢◌, ◌∙◌, refl, sym, ap, ℕ, ◌<◌, nat_eq, Bool, true, false, cond, List, length, Option, Some, None, slice_index_or, slice_set, length-set, nat_tests}
+use Rattle.sbp_world.proofs.Words.Wire.{Asked, block_write, Layer, asking_step, is_write, Outgoing, Side, OutboxState}
+use Rattle.sbp_world.proofs.Words.Target.{Login, block, Machine, Desk, Purpose, new_desk, NodeState, Scene, desk_at, announced_by, request_step, sent_by, with_packet, with_side, announce_from, unsolicited_by, unsolicited_from, Announced, pushes, stay, withholds}
+use Rattle.sbp_world.proofs.Words.Initiator.{Nothing}
+use Rattle.sbp_world.proofs.Words.Laws.{Agent, agent_over, sends_of, wants}
+use Rattle.sbp_world.proofs.Words.World.{Request, by_packets, with_requests}
 use Rattle.label_table.proofs.Owned.{set_at}
-use Rattle.login_table.specs.declared.login.Login.{Login}
-use Rattle.media_bay.specs.Unsolicited.{block}
-use Rattle.orb_layout.specs.declared.ask.Ask.TheVariants.{Nothing}
-use Rattle.command_agent.specs.Machine.{Machine}
-use Rattle.sbp_journal.specs.declared.outbox.Outgoing.{Outgoing}
-use Rattle.sbp_journal.specs.declared.side.Side.{Side}
 use Rattle.sbp_journal.specs.declared.side.Side.TheVariants as sides
-use Rattle.sbp_journal.specs.Outgoings.{OutboxState}
-use Rattle.sbp_laws.specs.Targets.{Agent, agent_over, sends_of, wants}
-use Rattle.sbp_target.specs.declared.desk.Desk.{Desk}
-use Rattle.sbp_target.specs.declared.purpose.Purpose.{Purpose}
 use Rattle.sbp_target.specs.declared.purpose.Purpose.TheVariants as purposes
-use Rattle.sbp_target.specs.Desks.{new_desk}
-use Rattle.sbp_target.specs.Nodes.{NodeState, Scene, desk_at}
-use Rattle.sbp_target.specs.Replies.{announced_by}
-use Rattle.sbp_target.specs.Sending.{request_step, sent_by, with_packet, with_side}
-use Rattle.sbp_target.specs.Units.{announce_from, unsolicited_by, unsolicited_from}
-use Rattle.sbp_world.specs.Agents.Crews.{Request, by_packets, by_side, by_sides, with_requests}
+use Rattle.sbp_world.specs.Agents.Crews.{by_side, by_sides}
 use Rattle.sbp_world.proofs.Agents.Serials.{Paired, more_within, number_after, paired_at, paired_more}
 use Rattle.sbp_world.proofs.Agents.Follows.{Done, Settled, Unwanting}
 use Rattle.sbp_world.proofs.Agents.Walk.{Holds, Out, out_as, out_more, sides_more}
 use Rattle.sbp_world.proofs.Agents.Writes.{asked_writes}
-use Rattle.sbp_target.specs.Histories.Moves.{Announced, pushes, stay, withholds}
 use Rattle.sbp_target.proofs.Histories.Moved.{announced_moves}
 use Rattle.sbp_target.proofs.Histories.Views.{kept as moves_keep}
 

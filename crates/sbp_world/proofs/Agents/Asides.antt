@@ -1,25 +1,15 @@
 -- What leaves the agents of the terms alone.
-use Rattle.std.proofs.Common.{arith, ◌≡◌, ◌∙◌, refl, sym, ap, ℕ, ◌<◌, nat_eq, not, false, cond, List, [], ◌∷◌, Option, Some, None}
-use Rattle.std.proofs.lemmas.Bool.Decides.{nat_tests}
-use Rattle.orb_layout.specs.declared.ask.Ask.{Ask}
-use Rattle.orb_layout.specs.declared.ask.Ask.TheVariants.{Nothing, Read, Write}
+use Rattle.sbp_world.proofs.Words.Std.{arith, ◌≡◌, ◌∙◌, refl, sym, ap, ℕ, ◌<◌, nat_eq, not, false, cond, List, [], ◌∷◌, Option, Some, None, nat_tests}
+use Rattle.sbp_world.proofs.Words.Wire.{Moment, part_of, Terms, Event, Note}
+use Rattle.sbp_world.proofs.Words.Target.{Ahead, lost_step}
+use Rattle.sbp_world.proofs.Words.Initiator.{Ask, Nothing, Read, Write, Expired}
+use Rattle.sbp_world.proofs.Words.Laws.{access_in_bytes, answered_at, receiver_in, sender_in, Agent, Reply, Target, agent_over, going_on, got_by, is_nothing, is_serial, is_write_access, key_by, main_lost, over, replied, reset_seen, sent_as, taken_on, target_by, event_of}
+use Rattle.sbp_world.proofs.Words.World.{AsidesLaw, MayGoOn, crew_over}
 use Rattle.orb_layout.specs.declared.ask.FailCause.TheVariants as causes
-use Rattle.orb_layout.specs.Replies.{Expired}
-use Rattle.command_agent.specs.declared.step.Which.TheVariants.{Ahead}
-use Rattle.command_agent.specs.Steps.{lost_step}
-use Rattle.sbp_journal.specs.Run.{Moment}
-use Rattle.sbp_journal.specs.Transactions.{part_of}
-use Rattle.sbp_journal.specs.Wire.{Terms}
-use Rattle.sbp_journal.specs.declared.event.Event.{Event}
 use Rattle.sbp_journal.specs.declared.event.Event.TheVariants as events
-use Rattle.sbp_journal.specs.declared.note.Note.{Note}
 use Rattle.sbp_journal.specs.declared.note.Note.TheVariants as notes
-use Rattle.sbp_laws.specs.Packets.{access_in_bytes, answered_at, receiver_in, sender_in}
-use Rattle.sbp_laws.specs.Targets.{Agent, Reply, Target, agent_over, going_on, got_by, is_nothing, is_serial, is_write_access, key_by, main_lost, over, replied, reset_seen, sent_as, taken_on, target_by}
-use Rattle.sbp_laws.specs.Turns.{event_of}
 use Rattle.sbp_laws.proofs.Going.{TellsNone, going_rests, quiet_on, taken_rests}
-use Rattle.sbp_world.specs.Agents.Asides.{AsidesLaw, IsAside, MayGoOn}
-use Rattle.sbp_world.specs.Agents.Crews.{crew_over}
+use Rattle.sbp_world.specs.Agents.Asides.{IsAside}
 use Rattle.sbp_world.proofs.Agents.Follows.{over_idle}
 use Rattle.sbp_world.proofs.Agents.Notes.{notes_law}
 

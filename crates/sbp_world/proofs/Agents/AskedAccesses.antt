@@ -1,46 +1,18 @@
 -- What is asked of the registers of an agent leaves all desks waiting for what left.
-use Rattle.std.proofs.Common.{◌≡◌, ◌∙◌, refl, sym, ap, subst, ℕ, ◌<◌, true, false, List, [], length, Option, Some, None, Ok}
-use Rattle.std.specs.Prelude.{slice_set}
-use Rattle.std.proofs.Math.ListN.{length-set}
-use Rattle.std.proofs.lemmas.Bool.{false≢true}
-use Rattle.async_packet.specs.Packet.{Packet, header_in}
-use Rattle.label_table.specs.Bodies.{Body}
-use Rattle.label_table.specs.Layer.{Layer, answering_step}
-use Rattle.login_table.specs.declared.login.Login.{Login}
-use Rattle.orb_layout.specs.declared.ask.Ask.TheVariants.{Nothing}
-use Rattle.orb_layout.specs.declared.command.CommandOrb.{CommandOrb}
-use Rattle.orb_layout.specs.declared.pointer.OrbPointer.{OrbPointer}
-use Rattle.orb_layout.specs.declared.pointer.OrbPointer.TheVariants.{At, Null}
-use Rattle.command_agent.specs.declared.phase.Phase.{Phase}
+use Rattle.sbp_world.proofs.Words.Std.{◌≡◌, ◌∙◌, refl, sym, ap, subst, ℕ, ◌<◌, true, false, List, [], length, Option, Some, None, Ok, slice_set, length-set, false≢true}
+use Rattle.sbp_world.proofs.Words.Wire.{Packet, header_in, Body, Layer, answering_step, Outgoing, OutboxState}
+use Rattle.sbp_world.proofs.Words.Target.{Login, Phase, ReadAhead, AgentState, AgentStep, Machine, is_ahead, is_sent, state_in, doorbell_in, doorbell_step, fetch_step, point_in, point_step, quiet, reread_step, complete, Access, Desk, Purpose, Sent, agent_body, cut, follow, after, pointed_desk, reset_desk, NodeState, Scene, desk_at, login_at, scene, with_desk, answer_step, accessed_by, answered, asked_in, enabled, point, pointed_by, ring, rung_by, ahead_ask, ahead_under}
+use Rattle.sbp_world.proofs.Words.Initiator.{Nothing, CommandOrb, OrbPointer, At, Null}
+use Rattle.sbp_world.proofs.Words.World.{AccessesLaw, AllAsk, AsksReally, IsStill, IsUnder, Left, ahead_body, main_body}
 use Rattle.command_agent.specs.declared.phase.Phase.TheVariants as phases
-use Rattle.command_agent.specs.declared.phase.ReadAhead.{ReadAhead}
-use Rattle.command_agent.specs.declared.step.AgentState.{AgentState}
 use Rattle.command_agent.specs.declared.step.AgentState.TheVariants as states
-use Rattle.command_agent.specs.declared.step.AgentStep.{AgentStep}
-use Rattle.command_agent.specs.Machine.{Machine, is_ahead, is_sent, state_in}
-use Rattle.command_agent.specs.Steps.{doorbell_in, doorbell_step, fetch_step, point_in, point_step, quiet, reread_step}
 use Rattle.command_agent.specs.Steps as steps
 use Rattle.sbp_journal.specs.declared.cause.CutCause.TheVariants as cuts
-use Rattle.sbp_journal.specs.declared.outbox.Outgoing.{Outgoing}
-use Rattle.sbp_journal.specs.Outgoings.{OutboxState}
-use Rattle.target_base.specs.Addresses.{complete}
-use Rattle.target_base.specs.declared.address.Access.{Access}
 use Rattle.target_base.specs.declared.address.Access.TheVariants as accesses
-use Rattle.sbp_target.specs.declared.desk.Desk.{Desk}
-use Rattle.sbp_target.specs.declared.purpose.Purpose.{Purpose}
-use Rattle.sbp_target.specs.declared.purpose.Sent.{Sent}
-use Rattle.sbp_target.specs.Agents.{agent_body, cut, follow}
-use Rattle.sbp_target.specs.Calls.{after}
-use Rattle.sbp_target.specs.Desks.{pointed_desk, reset_desk}
-use Rattle.sbp_target.specs.Nodes.{NodeState, Scene, desk_at, login_at, scene, with_desk}
-use Rattle.sbp_target.specs.Sending.{answer_step}
-use Rattle.sbp_target.specs.Serving.{accessed_by, answered, asked_in, enabled, point, pointed_by, ring, rung_by}
 use Rattle.sbp_target.proofs.Histories.Calling.{Good, not_eight}
 use Rattle.sbp_target.proofs.Histories.Following.{Fits}
 use Rattle.sbp_target.proofs.Histories.Settled.{all_good}
 use Rattle.sbp_target.proofs.Histories.Stepped.{Behind, behind_fetch, behind_reread, is_bare}
-use Rattle.agent_laws.specs.Along.Requests.{ahead_ask, ahead_under}
-use Rattle.sbp_world.specs.Agents.Asked.{AccessesLaw, AllAsk, AsksReally, IsStill, IsUnder, Left, ahead_body, main_body}
 use Rattle.sbp_world.proofs.Agents.AskedFollows.{Followed, desk_other, followed, left_as, left_more, only, still_body}
 use Rattle.sbp_world.proofs.Agents.AskedLate.{all_by, asks_more, cut_keeps, follow_keeps, follow_logins, quiet_follow, same_login}
 use Rattle.sbp_world.proofs.Agents.AskedReplies.{Fine, Off, off_asks}

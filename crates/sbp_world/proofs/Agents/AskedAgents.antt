@@ -1,48 +1,22 @@
 -- In a world whose agents of the terms are the target's each waits for what it asked for.
-use Rattle.std.proofs.Common.{arith, ◌≡◌, ◌∙◌, refl, sym, ap, subst, ℕ, ◌+◌, ◌^◌, ◌<◌, is_some, Bool, true, false, List, [], length, Option, Some, None}
-use Rattle.std.proofs.lemmas.Option.{same_Some}
-use Rattle.command_agent.specs.declared.phase.Phase.{Phase}
+use Rattle.sbp_world.proofs.Words.Std.{arith, ◌≡◌, ◌∙◌, refl, sym, ap, subst, ℕ, ◌+◌, ◌^◌, ◌<◌, is_some, Bool, true, false, List, [], length, Option, Some, None, same_Some}
+use Rattle.sbp_world.proofs.Words.Wire.{Access, Moment, Terms, terms}
+use Rattle.sbp_world.proofs.Words.Target.{Phase, ReadAhead, Machine, is_ahead, is_sent, state_in, is_reset, writes_status, Login, Table, place_at, Disk, Desk, Sent, desk_at, login_at, ahead_ask, ahead_under, main_under}
+use Rattle.sbp_world.proofs.Words.Initiator.{Ask, Nothing, Read, Write, OrbPointer, At, Null}
+use Rattle.sbp_world.proofs.Words.Laws.{fifo_in, access_at, Agent, Target, initiator_at, initiator_with, node_in, over, target_at}
+use Rattle.sbp_world.proofs.Words.World.{FitsAgent, FitsLogin, WorldState, Office, ahead_body, main_body, AreAskedAt, IsAccessFor, HasAsked, WaitsForAsked, AreOf, IsOf, Request, agent_in, AreHeldAt, AreKnown}
 use Rattle.command_agent.specs.declared.phase.Phase.TheVariants as phases
-use Rattle.command_agent.specs.declared.phase.ReadAhead.{ReadAhead}
 use Rattle.command_agent.specs.declared.phase.ReadAhead.TheVariants as aheads
-use Rattle.command_agent.specs.Machine.{Machine, is_ahead, is_sent, state_in}
-use Rattle.command_agent.specs.Steps.{is_reset}
-use Rattle.command_agent.specs.Tasks.{writes_status}
-use Rattle.login_table.specs.declared.login.Login.{Login}
-use Rattle.login_table.specs.Table.{Table, place_at}
-use Rattle.orb_layout.specs.declared.ask.Ask.{Ask}
-use Rattle.orb_layout.specs.declared.ask.Ask.TheVariants.{Nothing, Read, Write}
-use Rattle.orb_layout.specs.declared.pointer.OrbPointer.{OrbPointer}
-use Rattle.orb_layout.specs.declared.pointer.OrbPointer.TheVariants.{At, Null}
-use Rattle.rbc_disk.specs.Disk.{Disk}
 use Rattle.bus_transactions.proofs.Fits.{no_bytes}
-use Rattle.sbp_journal.specs.Addresses.{Access}
-use Rattle.sbp_journal.specs.Run.{Moment}
-use Rattle.sbp_journal.specs.Wire.{Terms, terms}
-use Rattle.sbp_laws.specs.Agents.{fifo_in}
-use Rattle.sbp_laws.specs.Packets.{access_at}
 use Rattle.sbp_laws.specs.Targets as laws
-use Rattle.sbp_laws.specs.Targets.{Agent, Target, initiator_at, initiator_with, node_in, over, target_at}
-use Rattle.sbp_target.specs.declared.desk.Desk.{Desk}
-use Rattle.sbp_target.specs.declared.purpose.Sent.{Sent}
-use Rattle.sbp_target.specs.Nodes.{desk_at, login_at}
-use Rattle.sbp_world.specs.FitTarget.{FitsAgent, FitsLogin}
-use Rattle.sbp_world.specs.Worlds.{WorldState}
 use Rattle.sbp_world.proofs.FitTarget.Nodes.{agent_body_fits}
 use Rattle.sbp_world.proofs.Wire.Holding.{KnownTo}
 use Rattle.sbp_target.proofs.Histories.Calling.{Good, not_eight}
 use Rattle.sbp_target.proofs.Histories.Following.{Fits, IsServed, node_of}
-use Rattle.sbp_world.specs.Agents.Management.Offices.{Office}
 use Rattle.sbp_world.proofs.Agents.Management.Holding.{Holding, past_terms, same_id}
 use Rattle.sbp_world.proofs.Agents.Management.Offices.{over_keeps}
 use Rattle.sbp_world.proofs.Agents.Management.Still.{hist}
-use Rattle.agent_laws.specs.Along.Requests.{ahead_ask, ahead_under, main_under}
-use Rattle.sbp_world.specs.Agents.Asked.{ahead_body, main_body}
-use Rattle.sbp_world.specs.Agents.AskedRuns.{AreAskedAt, IsAccessFor, HasAsked, WaitsForAsked, is_open}
-use Rattle.sbp_world.specs.Agents.Calls.{AreOf}
-use Rattle.sbp_world.specs.Agents.Crews.{IsOf, Request, agent_in}
-use Rattle.sbp_world.specs.Agents.Holders.{AreHeldAt}
-use Rattle.sbp_world.specs.Agents.Serials.{AreKnown}
+use Rattle.sbp_world.specs.Agents.AskedRuns.{is_open}
 use Rattle.sbp_world.proofs.Agents.AskedAlike.{ahead_alike, ahead_fits, bytes_alike, main_alike, main_fits, reads_on, status_alike}
 use Rattle.sbp_world.proofs.Agents.AskedPackets.{Asked, asked_by, asks, left_is, packets}
 use Rattle.sbp_world.proofs.Agents.CrewFirsts.{agrees}

@@ -1,27 +1,13 @@
 -- Of two agents that differ in nothing that their phase reads any more one request is under way; its address has 48 bits.
-use Rattle.std.proofs.Common.{◌≡◌, ◌∙◌, refl, sym, ap, ℕ, ◌-◌, ◌*◌, ◌^◌, ◌<◌, ◌&&◌, nat_lt, Bool, true, false, List, [], ◌∷◌, length, arith}
-use Rattle.std.specs.List.{AllByRecursion}
-use Rattle.orb_layout.specs.declared.ask.Ask.{Ask}
-use Rattle.orb_layout.specs.declared.ask.Ask.TheVariants.{Nothing, Read, Write}
-use Rattle.orb_layout.specs.declared.command.CommandOrb.{CommandOrb}
-use Rattle.orb_layout.specs.declared.pointer.OrbPointer.{OrbPointer}
-use Rattle.orb_layout.specs.declared.pointer.OrbPointer.TheVariants.{At, Null}
-use Rattle.orb_layout.specs.Pointers.{IsPointer}
-use Rattle.page_table.specs.declared.segment.Segment.{Segment}
-use Rattle.page_table.specs.Buffer.{chunk, chunk_from}
-use Rattle.command_agent.specs.declared.phase.Phase.{Phase}
+use Rattle.sbp_world.proofs.Words.Std.{◌≡◌, ◌∙◌, refl, sym, ap, ℕ, ◌-◌, ◌*◌, ◌^◌, ◌<◌, ◌&&◌, nat_lt, Bool, true, false, List, [], ◌∷◌, length, arith, AllByRecursion}
+use Rattle.sbp_world.proofs.Words.Target.{Phase, ReadAhead, Machine, cut_to, is_ahead, limit_of, state_in, is_reset, writes_status, ahead_ask, ahead_under, main_ask, main_under}
+use Rattle.sbp_world.proofs.Words.Initiator.{Ask, Nothing, Read, Write, CommandOrb, OrbPointer, At, Null, IsPointer, Segment, chunk, chunk_from}
+use Rattle.sbp_world.proofs.Words.Laws.{is_nothing}
+use Rattle.sbp_world.proofs.Words.World.{FitsAgent, FitsSegment, Alike, answers, has_list, moves_data}
 use Rattle.command_agent.specs.declared.phase.Phase.TheVariants as phases
-use Rattle.command_agent.specs.declared.phase.ReadAhead.{ReadAhead}
 use Rattle.command_agent.specs.declared.phase.ReadAhead.TheVariants as aheads
-use Rattle.command_agent.specs.Machine.{Machine, cut_to, is_ahead, limit_of, state_in}
-use Rattle.command_agent.specs.Steps.{is_reset}
-use Rattle.command_agent.specs.Tasks.{writes_status}
-use Rattle.sbp_laws.specs.Targets.{is_nothing}
-use Rattle.sbp_world.specs.FitTarget.{FitsAgent, FitsSegment}
 use Rattle.sbp_world.proofs.FitTarget.Agents.{FitsAsk, aligned_fits, chunk_by}
 use Rattle.sbp_target.proofs.Histories.Stepped.{Fit, is_bare}
-use Rattle.agent_laws.specs.Along.Requests.{ahead_ask, ahead_under, main_ask, main_under}
-use Rattle.sbp_world.specs.Agents.Alike.{Alike, answers, has_list, moves_data}
 use Rattle.sbp_world.proofs.Lists.Slots.{not_both}
 
 -- ---- while something is read ahead, a list is open

@@ -1,27 +1,14 @@
 -- The bytes of a request of an agent spell what it asked for.
-use Rattle.std.proofs.Common.{◌≡◌, ◌∙◌, refl, ap, subst, ℕ, ◌+◌, ◌*◌, ◌/◌, ◌%◌, ◌^◌, ◌<◌, nat_le, Bool, true, false, cond, List, [], ◌∷◌, ◌++◌, length, Option, Some, None, Result, Ok, arith}
-use Rattle.std.proofs.lemmas.Bool.{false≢true}
-use Rattle.std.proofs.lemmas.Option.{same_Some, none-some}
-use Rattle.byteorder.specs.Endian.{big_bytes}
-use Rattle.async_packet.specs.Canon.{IsValid, canon, four, three, with_pad}
-use Rattle.async_packet.specs.Fields.{largest}
-use Rattle.async_packet.specs.Packet.{Packet}
-use Rattle.async_packet.specs.Reading.{reading}
-use Rattle.async_packet.specs.declared.fault.PacketFault.{PacketFault}
+use Rattle.sbp_world.proofs.Words.Std.{◌≡◌, ◌∙◌, refl, ap, subst, ℕ, ◌+◌, ◌*◌, ◌/◌, ◌%◌, ◌^◌, ◌<◌, nat_le, Bool, true, false, cond, List, [], ◌∷◌, ◌++◌, length, Option, Some, None, Result, Ok, arith, false≢true, same_Some, none-some, big_bytes}
+use Rattle.sbp_world.proofs.Words.Wire.{IsValid, canon, four, three, with_pad, largest, Packet, reading, PacketFault, FitsRequest, Body, block_read, block_write, header_to, quadlet_read, quadlet_write, request_with, relabelled, with_label, Access, access_of}
+use Rattle.sbp_world.proofs.Words.Target.{agent_body}
+use Rattle.sbp_world.proofs.Words.Initiator.{Ask, Nothing, Read, Write}
+use Rattle.sbp_world.proofs.Words.Laws.{access_in, access_in_bytes, spelled_by}
+use Rattle.sbp_world.proofs.Words.World.{IsAccessFor, read_access, write_access}
 use Rattle.async_packet.proofs.RoundTrip.{canon_spells}
 use Rattle.async_packet.proofs.Spelled.{reading_spelled}
-use Rattle.bus_transactions.specs.Fitting.{FitsRequest}
 use Rattle.bus_transactions.proofs.Fits.{request_fits}
-use Rattle.label_table.specs.Bodies.{Body, block_read, block_write, header_to, quadlet_read, quadlet_write, request_with}
-use Rattle.label_table.specs.Laws.{relabelled}
-use Rattle.label_table.specs.Requests.{with_label}
 use Rattle.label_table.proofs.Rewritten.{writes_labels}
-use Rattle.orb_layout.specs.declared.ask.Ask.{Ask}
-use Rattle.orb_layout.specs.declared.ask.Ask.TheVariants.{Nothing, Read, Write}
-use Rattle.sbp_journal.specs.Addresses.{Access, access_of}
-use Rattle.sbp_laws.specs.Packets.{access_in, access_in_bytes, spelled_by}
-use Rattle.sbp_target.specs.Agents.{agent_body}
-use Rattle.sbp_world.specs.Agents.AskedRuns.{IsAccessFor, read_access, write_access}
 
 -- ---- a source counts by its low 16 bits
 four_same : (a b c d p q r s : ℕ) → a ≡ p → b ≡ q → c ≡ r → d ≡ s → a ∷ b ∷ c ∷ d ∷ [] ≡ p ∷ q ∷ r ∷ s ∷ []

@@ -1,30 +1,14 @@
 -- Each call of a target, and so every list of them, leaves all desks waiting for what left.
-use Rattle.std.proofs.Common.{arith, ◌≡◌, refl, sym, subst, ℕ, ◌<◌, ◌≤◌, nat_lt, true, false, List, [], ◌∷◌, length, Option, Some, None, Result, Ok, Err}
-use Rattle.std.proofs.lemmas.Bool.Decides.{nat_tests}
-use Rattle.std.proofs.lemmas.List.{get_or_past}
+use Rattle.sbp_world.proofs.Words.Std.{arith, ◌≡◌, refl, sym, subst, ℕ, ◌<◌, ◌≤◌, nat_lt, true, false, List, [], ◌∷◌, length, Option, Some, None, Result, Ok, Err, nat_tests, get_or_past}
+use Rattle.sbp_world.proofs.Words.Wire.{LabelParts, header_in, Stale, Finding, Layer, expiring_step, judging_step, of_again, of_generation, of_grammar, of_label, of_request, of_response, OutboxState}
+use Rattle.sbp_world.proofs.Words.Target.{Login, Disk, Told, Desk, Purpose, Call, after, done, lets_expire, receives, sees, sets_key, ticks, new_desk, which_in, NodeState, Scene, desk_at, login_at, scene, answer_in, concluded, expire_agent, expired, expired_by, expired_in, new_node, received, received_as, timed_out, replied_by, replied_to, scene_of, whole, if_served}
+use Rattle.sbp_world.proofs.Words.Initiator.{Answer, Expired}
+use Rattle.sbp_world.proofs.Words.World.{AllAsk, AsksReally, CallsAskLaw, gathered}
 use Rattle.label_table.proofs.Sources.{default_in}
-use Rattle.async_packet.specs.Labels.{LabelParts}
-use Rattle.async_packet.specs.Packet.{header_in}
-use Rattle.label_table.specs.declared.reply.Stale.{Stale}
-use Rattle.label_table.specs.Layer.{Finding, Layer, expiring_step, judging_step, of_again, of_generation, of_grammar, of_label, of_request, of_response}
-use Rattle.login_table.specs.declared.login.Login.{Login}
-use Rattle.orb_layout.specs.Replies.{Answer, Expired}
-use Rattle.rbc_disk.specs.Disk.{Disk}
-use Rattle.rbc_disk.specs.Runs.{Told}
-use Rattle.sbp_journal.specs.Outgoings.{OutboxState}
-use Rattle.sbp_target.specs.declared.desk.Desk.{Desk}
-use Rattle.sbp_target.specs.declared.purpose.Purpose.{Purpose}
 use Rattle.sbp_target.specs.declared.purpose.Purpose.TheVariants as purposes
-use Rattle.sbp_target.specs.Calls.{Call, after, done, lets_expire, receives, sees, sets_key, ticks}
-use Rattle.sbp_target.specs.Desks.{new_desk, which_in}
-use Rattle.sbp_target.specs.Nodes.{NodeState, Scene, desk_at, login_at, scene}
-use Rattle.sbp_target.specs.Receiving.{answer_in, concluded, expire_agent, expired, expired_by, expired_in, new_node, received, received_as, timed_out}
-use Rattle.sbp_target.specs.Replies.{replied_by, replied_to, scene_of, whole}
-use Rattle.target_base.specs.Logins.{if_served}
 use Rattle.sbp_target.proofs.Histories.Calling.{Good}
 use Rattle.sbp_target.proofs.Histories.Seats.{split}
 use Rattle.sbp_target.proofs.Histories.Settled.{all_good, call_good, new_good}
-use Rattle.sbp_world.specs.Agents.Asked.{AllAsk, AsksReally, CallsAskLaw, gathered}
 use Rattle.sbp_world.proofs.Agents.AskedAccesses.{answered_fine}
 use Rattle.sbp_world.proofs.Agents.AskedLate.{lates}
 use Rattle.sbp_world.proofs.Agents.AskedManagement.{idle_asks, manage_fine}

@@ -1,53 +1,19 @@
 -- Behind a step of an agent what its desk waits for left, as the request that its machine has under way.
-use Rattle.std.proofs.Common.{◌≡◌, ◌∙◌, refl, sym, ap, subst, inl, inr, ℕ, ◌<◌, ◌&&◌, ◌||◌, not, is_some, nat_lt, Bool, true, false, cond, List, [], ◌∷◌, ◌++◌, length, Option, Some, None, Result, Err, arith, ◌≢◌}
-use Rattle.std.specs.Prelude.{slice_index_or, slice_set}
-use Rattle.std.proofs.Math.ListN.{length-set}
-use Rattle.std.proofs.lemmas.Bool.{false≢true, true≢false}
-use Rattle.std.proofs.lemmas.Option.{same_Some, none-some}
+use Rattle.sbp_world.proofs.Words.Std.{◌≡◌, ◌∙◌, refl, sym, ap, subst, inl, inr, ℕ, ◌<◌, ◌&&◌, ◌||◌, not, is_some, nat_lt, Bool, true, false, cond, List, [], ◌∷◌, ◌++◌, length, Option, Some, None, Result, Err, arith, ◌≢◌, slice_index_or, slice_set, length-set, false≢true, true≢false, same_Some, none-some}
+use Rattle.sbp_world.proofs.Words.Wire.{Asked, Body, Layer, asked_at, asking_in, asking_step, free_labels, peer_at, peer_place, unlabelled, begun_for, begin_at, begin_step, lowest_from, with_label, Outgoing, OutboxState}
+use Rattle.sbp_world.proofs.Words.Target.{new_desk, Login, Outcome, Phase, ReadAhead, AgentState, AgentStep, PointRefusal, Ahead, Main, Machine, is_ahead, is_sent, is_under_way, state_in, doorbell_in, doorbell_step, fetch_step, lost_step, point_in, point_step, quiet, reply_step, reread_step, writes_status, Desk, Purpose, Sent, after_ahead, after_loss, after_main, agent_body, ahead_asked, ahead_sent, ask_ahead, ask_main, dropped_by, follow, lose, lose_main, lost_by, main_asked, main_sent, noted, promoted_by, send_ahead, without_ahead, NodeState, Scene, desk_at, scene, with_agent, with_desk, request_step, sent_by, tell_dead, tell_ended, tell_ran, tell_step, ahead_ask, ahead_under, main_under}
+use Rattle.sbp_world.proofs.Words.Initiator.{Ask, Nothing, Read, Write, FailCause, OrbPointer, At, Null, StatusKind}
+use Rattle.sbp_world.proofs.Words.World.{AsksReally, FollowLaw, IsBare, IsFit, IsSized, IsStill, IsUnder, Left, ahead_body, has_next, main_body, reads_none, uses_buffer}
 use Rattle.label_table.proofs.Owned.{set_at}
-use Rattle.sbp_target.specs.Desks.{new_desk}
-use Rattle.label_table.specs.declared.judgement.Asked.{Asked}
-use Rattle.label_table.specs.Bodies.{Body}
-use Rattle.label_table.specs.Layer.{Layer, asked_at, asking_in, asking_step, free_labels, peer_at, peer_place, unlabelled}
-use Rattle.label_table.specs.Peers.{begun_for}
-use Rattle.label_table.specs.Table.{begin_at, begin_step, lowest_from}
-use Rattle.label_table.specs.Requests.{with_label}
-use Rattle.login_table.specs.declared.login.Login.{Login}
-use Rattle.orb_layout.specs.declared.ask.Ask.{Ask}
-use Rattle.orb_layout.specs.declared.ask.Ask.TheVariants.{Nothing, Read, Write}
-use Rattle.orb_layout.specs.declared.ask.FailCause.{FailCause}
 use Rattle.orb_layout.specs.declared.ask.FailCause.TheVariants as causes
-use Rattle.orb_layout.specs.declared.pointer.OrbPointer.{OrbPointer}
-use Rattle.orb_layout.specs.declared.pointer.OrbPointer.TheVariants.{At, Null}
-use Rattle.orb_layout.specs.declared.status.StatusKind.{StatusKind}
-use Rattle.rbc_disk.specs.declared.command.Outcome.{Outcome}
-use Rattle.command_agent.specs.declared.phase.Phase.{Phase}
 use Rattle.command_agent.specs.declared.phase.Phase.TheVariants as phases
-use Rattle.command_agent.specs.declared.phase.ReadAhead.{ReadAhead}
 use Rattle.command_agent.specs.declared.phase.ReadAhead.TheVariants as aheads
-use Rattle.command_agent.specs.declared.step.AgentState.{AgentState}
 use Rattle.command_agent.specs.declared.step.AgentState.TheVariants as states
-use Rattle.command_agent.specs.declared.step.AgentStep.{AgentStep}
-use Rattle.command_agent.specs.declared.step.PointRefusal.{PointRefusal}
-use Rattle.command_agent.specs.declared.step.Which.TheVariants.{Ahead, Main}
-use Rattle.command_agent.specs.Machine.{Machine, is_ahead, is_sent, is_under_way, state_in}
-use Rattle.command_agent.specs.Steps.{doorbell_in, doorbell_step, fetch_step, lost_step, point_in, point_step, quiet, reply_step, reread_step}
 use Rattle.command_agent.specs.Steps as steps
-use Rattle.command_agent.specs.Tasks.{writes_status}
-use Rattle.sbp_journal.specs.declared.outbox.Outgoing.{Outgoing}
-use Rattle.sbp_journal.specs.Outgoings.{OutboxState}
-use Rattle.sbp_target.specs.declared.desk.Desk.{Desk}
-use Rattle.sbp_target.specs.declared.purpose.Purpose.{Purpose}
 use Rattle.sbp_target.specs.declared.purpose.Purpose.TheVariants as purposes
-use Rattle.sbp_target.specs.declared.purpose.Sent.{Sent}
-use Rattle.sbp_target.specs.Agents.{after_ahead, after_loss, after_main, agent_body, ahead_asked, ahead_sent, ask_ahead, ask_main, dropped_by, follow, lose, lose_main, lost_by, main_asked, main_sent, noted, promoted_by, send_ahead, without_ahead}
-use Rattle.sbp_target.specs.Nodes.{NodeState, Scene, desk_at, scene, with_agent, with_desk}
-use Rattle.sbp_target.specs.Sending.{request_step, sent_by}
-use Rattle.sbp_target.specs.Telling.{tell_dead, tell_ended, tell_ran, tell_step}
 use Rattle.sbp_target.proofs.Histories.Stepped.{Behind, Carries, Fit, Lost, ahead_loses, behind_fetch, behind_reread, is_asked, is_bare, is_next, last_loses, main_loses, main_replied}
 use Rattle.sbp_target.proofs.Histories.Stepped as stepped
-use Rattle.agent_laws.specs.Along.Requests.{ahead_ask, ahead_under, main_under}
-use Rattle.sbp_world.specs.Agents.Asked.{AsksReally, FollowLaw, IsBare, IsBehind, IsFit, IsFor, IsSized, IsStill, IsUnder, Left, ahead_body, asks, has_next, main_body, reads_none, uses_buffer}
+use Rattle.sbp_world.specs.Agents.Asked.{IsBehind, IsFor, asks}
 use Rattle.sbp_world.proofs.Agents.AskedSteps.{taken, under_law, some_ask}
 use Rattle.sbp_world.proofs.Agents.Sized.{nothing_sized, read_sized, still_sized}
 use Rattle.sbp_world.proofs.Agents.Walk.{desk_set}

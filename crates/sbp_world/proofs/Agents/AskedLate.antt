@@ -1,40 +1,15 @@
 -- A time-out of a transaction of an agent, and a cut of its list, leave all desks waiting for what left.
-use Rattle.std.proofs.Common.{arith, ◌≡◌, ◌≢◌, ◌∙◌, refl, sym, ap, subst, ℕ, ◌<◌, ◌&&◌, nat_eq, Bool, true, false, cond, List, Option, Some, None}
-use Rattle.std.proofs.Math.ListN.{length-set}
-use Rattle.std.proofs.lemmas.Bool.Decides.{nat_tests}
-use Rattle.std.proofs.lemmas.Bool.{false≢true}
-use Rattle.async_packet.specs.Labels.{LabelParts}
-use Rattle.label_table.specs.declared.judgement.Asked.{Asked}
-use Rattle.label_table.specs.Bodies.{Body}
-use Rattle.label_table.specs.Layer.{Layer}
-use Rattle.login_table.specs.declared.login.Login.{Login}
-use Rattle.login_table.specs.Table.{Table, place_at}
+use Rattle.sbp_world.proofs.Words.Std.{arith, ◌≡◌, ◌≢◌, ◌∙◌, refl, sym, ap, subst, ℕ, ◌<◌, ◌&&◌, nat_eq, Bool, true, false, cond, List, Option, Some, None, length-set, nat_tests, false≢true}
+use Rattle.sbp_world.proofs.Words.Wire.{LabelParts, Asked, Body, Layer, CutCause, Outgoing, OutboxState}
+use Rattle.sbp_world.proofs.Words.Target.{Login, Table, place_at, AgentStep, Which, Ahead, Main, Machine, is_ahead, is_sent, state_in, is_reset, lost_step, quiet, reset_step, Desk, Purpose, Sent, ask_main, cut, cut_node, follow, noted, send_ahead, told_cut, after, is_that, reset_desk, taken, which_in, NodeState, Scene, desk_at, login_at, scene, with_desk, expire_agent, expired_by, tell_step, request, with_asked}
+use Rattle.sbp_world.proofs.Words.World.{AllAsk, AsksReally, LateLaw, Left, ahead_body, main_body}
 use Rattle.orb_layout.specs.declared.ask.FailCause.TheVariants as causes
-use Rattle.command_agent.specs.declared.step.AgentStep.{AgentStep}
-use Rattle.command_agent.specs.declared.step.Which.{Which}
-use Rattle.command_agent.specs.declared.step.Which.TheVariants.{Ahead, Main}
-use Rattle.command_agent.specs.Machine.{Machine, is_ahead, is_sent, state_in}
-use Rattle.command_agent.specs.Steps.{is_reset, lost_step, quiet, reset_step}
-use Rattle.sbp_journal.specs.declared.cause.CutCause.{CutCause}
-use Rattle.sbp_journal.specs.declared.outbox.Outgoing.{Outgoing}
-use Rattle.sbp_journal.specs.Outgoings.{OutboxState}
-use Rattle.sbp_target.specs.declared.desk.Desk.{Desk}
-use Rattle.sbp_target.specs.declared.purpose.Purpose.{Purpose}
-use Rattle.sbp_target.specs.declared.purpose.Sent.{Sent}
-use Rattle.sbp_target.specs.Agents.{ask_main, cut, cut_node, follow, noted, send_ahead, told_cut}
-use Rattle.sbp_target.specs.Calls.{after}
-use Rattle.sbp_target.specs.Desks.{is_that, reset_desk, taken, which_in}
-use Rattle.sbp_target.specs.Nodes.{NodeState, Scene, desk_at, login_at, scene, with_desk}
-use Rattle.sbp_target.specs.Receiving.{expire_agent, expired_by}
-use Rattle.sbp_target.specs.Telling.{tell_step}
-use Rattle.sbp_target.specs.Histories.Layers.{request, with_asked}
 use Rattle.sbp_target.proofs.Histories.Calling.{Good, not_eight}
 use Rattle.sbp_target.proofs.Histories.Following.{Fits}
 use Rattle.sbp_target.proofs.Histories.Framed as framed
 use Rattle.sbp_target.proofs.Histories.Pass as pass
 use Rattle.sbp_target.proofs.Histories.Settled.{all_good}
 use Rattle.sbp_target.proofs.Histories.Stepped.{ahead_loses, main_loses}
-use Rattle.sbp_world.specs.Agents.Asked.{AllAsk, AsksReally, LateLaw, Left, ahead_body, main_body}
 use Rattle.sbp_world.proofs.Agents.AskedFollows.{Followed, bare_of, desk_other, followed, left_as, left_more, still_body}
 use Rattle.sbp_world.proofs.Agents.AskedSteps.{under_law}
 use Rattle.sbp_world.proofs.Agents.Sized.{nothing_sized, still_sized}

@@ -1,43 +1,20 @@
 -- A reply to the management operation leaves all desks waiting for what left.
-use Rattle.std.proofs.Common.{arith, ◌≡◌, ◌∙◌, refl, sym, ap, subst, ℕ, zero, suc, ◌+◌, ◌<◌, ◌≤◌, nat_eq, nat_lt, Bool, true, false, cond, List, length, Option, Some, None}
-use Rattle.std.specs.Prelude.{slice_set}
-use Rattle.std.proofs.Math.ListN.{length-set}
-use Rattle.std.proofs.lemmas.Bool.{false≢true}
-use Rattle.label_table.specs.Layer.{Layer}
-use Rattle.login_table.specs.declared.login.Login.{Login}
-use Rattle.login_table.specs.Table.{Table, place_at}
-use Rattle.mgmt_agent.specs.declared.decision.Decision.{Decision}
-use Rattle.mgmt_agent.specs.declared.decision.Effect.{Effect}
+use Rattle.sbp_world.proofs.Words.Std.{arith, ◌≡◌, ◌∙◌, refl, sym, ap, subst, ℕ, zero, suc, ◌+◌, ◌<◌, ◌≤◌, nat_eq, nat_lt, Bool, true, false, cond, List, length, Option, Some, None, slice_set, length-set, false≢true}
+use Rattle.sbp_world.proofs.Words.Wire.{Layer, CutCause, Outgoing, OutboxState}
+use Rattle.sbp_world.proofs.Words.Target.{Login, Table, place_at, Decision, Effect, ManagerStep, PlaceBelow, Phase, is_ahead, is_sent, state_in, abort_step, is_reset, reset_step, Desk, Purpose, cut, cut_node, after, reset_desk, cut_place, cut_placed, decided_by, effect_by, failed_by, logged_out, manage, managed_in, managed_with, told_of, with_manager, NodeState, Scene, desk_at, login_at, scene, clear_from, clear_unit, cut_all, cut_at, cut_from, is_cut}
+use Rattle.sbp_world.proofs.Words.Initiator.{FailCause, Answer}
+use Rattle.sbp_world.proofs.Words.World.{AllAsk, AsksReally, ManagementAskLaw, main_body}
 use Rattle.mgmt_agent.specs.declared.decision.Effect.TheVariants as effects
-use Rattle.mgmt_agent.specs.declared.decision.ManagerStep.{ManagerStep}
-use Rattle.mgmt_agent.specs.Effects.{PlaceBelow}
 use Rattle.mgmt_agent.specs.Machine as management
 use Rattle.mgmt_agent.proofs.Places.{places_of_effects}
-use Rattle.orb_layout.specs.declared.ask.FailCause.{FailCause}
-use Rattle.orb_layout.specs.Replies.{Answer}
-use Rattle.command_agent.specs.declared.phase.Phase.{Phase}
 use Rattle.command_agent.specs.declared.phase.Phase.TheVariants as phases
-use Rattle.command_agent.specs.Machine.{is_ahead, is_sent, state_in}
-use Rattle.command_agent.specs.Steps.{abort_step, is_reset, reset_step}
-use Rattle.sbp_journal.specs.declared.cause.CutCause.{CutCause}
 use Rattle.sbp_journal.specs.declared.cause.CutCause.TheVariants as cuts
-use Rattle.sbp_journal.specs.declared.outbox.Outgoing.{Outgoing}
-use Rattle.sbp_journal.specs.Outgoings.{OutboxState}
-use Rattle.sbp_target.specs.declared.desk.Desk.{Desk}
-use Rattle.sbp_target.specs.declared.purpose.Purpose.{Purpose}
-use Rattle.sbp_target.specs.Agents.{cut, cut_node}
-use Rattle.sbp_target.specs.Calls.{after}
-use Rattle.sbp_target.specs.Desks.{reset_desk}
-use Rattle.sbp_target.specs.Management.{cut_place, cut_placed, decided_by, effect_by, failed_by, logged_out, manage, managed_in, managed_with, told_of, with_manager}
-use Rattle.sbp_target.specs.Nodes.{NodeState, Scene, desk_at, login_at, scene}
-use Rattle.sbp_target.specs.Units.{clear_from, clear_unit, cut_all, cut_at, cut_from, is_cut}
 use Rattle.sbp_target.proofs.Histories.Calling.{Good, not_eight}
 use Rattle.sbp_target.proofs.Histories.Effecting.{Moves, StepMoves, effect_in, leaves, reply_moves}
 use Rattle.sbp_target.proofs.Histories.Following.{other_place, same_place}
 use Rattle.sbp_target.proofs.Histories.Seats.{split}
 use Rattle.sbp_target.proofs.Histories.Settled.{all_good}
 use Rattle.sbp_target.proofs.Histories.Stepped.{is_bare}
-use Rattle.sbp_world.specs.Agents.Asked.{AllAsk, AsksReally, ManagementAskLaw, main_body}
 use Rattle.sbp_world.proofs.Agents.AskedFollows.{desk_other, left_as, still_body}
 use Rattle.sbp_world.proofs.Agents.AskedLate.{all_by, same_login}
 use Rattle.sbp_world.proofs.Agents.AskedReplies.{Fine, Off, off_asks}

@@ -1,34 +1,14 @@
 -- In a world the packet under whose label a desk waits is the request that left for it.
-use Rattle.std.proofs.Common.{arith, ◌≡◌, ◌∙◌, refl, sym, ap, subst, inl, inr, ℕ, zero, suc, ◌&&◌, ◌<◌, Bool, true, List, [], ◌∷◌, length, Option, Some}
-use Rattle.std.proofs.lemmas.Option.{same_Some, none-some}
-use Rattle.bus_transactions.specs.Bare.{bare}
-use Rattle.bus_transactions.specs.Fitting.{FitsRequest}
-use Rattle.bus_transactions.specs.Reached.{IsAwaited}
-use Rattle.bus_transactions.specs.Wire.{Node, transaction}
+use Rattle.sbp_world.proofs.Words.Std.{arith, ◌≡◌, ◌∙◌, refl, sym, ap, subst, inl, inr, ℕ, zero, suc, ◌&&◌, ◌<◌, Bool, true, List, [], ◌∷◌, length, Option, Some, same_Some, none-some}
+use Rattle.sbp_world.proofs.Words.Wire.{bare, FitsRequest, IsAwaited, Node, transaction, Body, Layer, last_for, request_of, Access, Moment, Sending, Transaction, Held, Terms, terms, waits, Outgoing}
+use Rattle.sbp_world.proofs.Words.Target.{Disk, Purpose, Sent, agent_body, packets_after, NodeState}
+use Rattle.sbp_world.proofs.Words.Initiator.{Ask, Write}
+use Rattle.sbp_world.proofs.Words.Laws.{access_at, access_in, access_in_bytes, begun_in, is_under_way, is_waiting_for, packet_in, receiver_in, sender_in, waits_for}
+use Rattle.sbp_world.proofs.Words.World.{WorldState, Stands, AllAsk, Left, IsAccessFor}
 use Rattle.bus_transactions.proofs.Facts.{AskedBy, Facts, IsAsked, asked_is, begun_asked}
 use Rattle.bus_transactions.proofs.Reaches.{goes_on}
-use Rattle.label_table.specs.Bodies.{Body}
 use Rattle.label_table.specs.History as wire
-use Rattle.label_table.specs.Layer.{Layer}
-use Rattle.label_table.specs.Peers.{last_for}
-use Rattle.orb_layout.specs.declared.ask.Ask.{Ask}
-use Rattle.orb_layout.specs.declared.ask.Ask.TheVariants.{Write}
-use Rattle.rbc_disk.specs.Disk.{Disk}
-use Rattle.sbp_bus.specs.Sending.{request_of}
-use Rattle.sbp_journal.specs.Addresses.{Access}
-use Rattle.sbp_journal.specs.Run.{Moment}
-use Rattle.sbp_journal.specs.Transactions.{Sending, Transaction}
-use Rattle.sbp_journal.specs.Wire.{Held, Terms, terms, waits}
-use Rattle.sbp_journal.specs.declared.outbox.Outgoing.{Outgoing}
-use Rattle.sbp_laws.specs.Packets.{access_at, access_in, access_in_bytes, begun_in, is_under_way, is_waiting_for, packet_in, receiver_in, sender_in, waits_for}
-use Rattle.sbp_target.specs.declared.purpose.Purpose.{Purpose}
 use Rattle.sbp_target.specs.declared.purpose.Purpose.TheVariants as purposes
-use Rattle.sbp_target.specs.declared.purpose.Sent.{Sent}
-use Rattle.sbp_target.specs.Agents.{agent_body}
-use Rattle.sbp_target.specs.Calls.{packets_after}
-use Rattle.sbp_target.specs.Nodes.{NodeState}
-use Rattle.sbp_world.specs.Worlds.{WorldState}
-use Rattle.sbp_world.specs.Wire.Wires.{Stands}
 use Rattle.sbp_world.proofs.FitTarget.Nodes.{IfBody}
 use Rattle.sbp_world.proofs.Wire.Bus.{holds}
 use Rattle.sbp_world.proofs.Wire.Holding.{KnownTo, known_small}
@@ -38,8 +18,7 @@ use Rattle.sbp_target.proofs.Histories.Made.{runs}
 use Rattle.sbp_target.proofs.Histories.Seats.{IsFor as IsForLife}
 use Rattle.sbp_world.proofs.Agents.Management.Holding.{Holding, past_terms}
 use Rattle.sbp_world.proofs.Agents.Management.Still.{hist}
-use Rattle.sbp_world.specs.Agents.Asked.{AllAsk, IsFor, Left}
-use Rattle.sbp_world.specs.Agents.AskedRuns.{IsAccessFor}
+use Rattle.sbp_world.specs.Agents.Asked.{IsFor}
 use Rattle.sbp_world.specs.Agents.Purposes.{HasRequest}
 use Rattle.sbp_world.proofs.Agents.AskedBytes.{is_asked_for, reads_back}
 use Rattle.sbp_world.proofs.Agents.BesideCalls.{all_ask}

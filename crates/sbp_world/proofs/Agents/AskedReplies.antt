@@ -1,48 +1,19 @@
 -- A reply to an agent leaves all desks waiting for what left.
-use Rattle.std.proofs.Common.{◌≡◌, ◌∙◌, refl, sym, ap, subst, ℕ, ◌<◌, nat_lt, Bool, true, false, cond, List, length, Option, Some, None}
-use Rattle.std.specs.Prelude.{slice_set}
-use Rattle.std.proofs.Math.ListN.{length-set}
-use Rattle.async_packet.specs.Labels.{LabelParts}
-use Rattle.label_table.specs.declared.judgement.Asked.{Asked}
-use Rattle.label_table.specs.Bodies.{Body, block_write}
-use Rattle.label_table.specs.Layer.{Layer, asking_step}
-use Rattle.login_table.specs.declared.login.Login.{Login}
-use Rattle.media_bay.specs.Unsolicited.{block}
-use Rattle.orb_layout.specs.Replies.{Answer}
-use Rattle.rbc_disk.specs.Disk.{Disk}
-use Rattle.rbc_disk.specs.Disk.{disk_at}
-use Rattle.rbc_disk.specs.Runs.{Told}
-use Rattle.command_agent.specs.declared.step.AgentStep.{AgentStep}
-use Rattle.command_agent.specs.declared.step.Which.{Which}
-use Rattle.command_agent.specs.declared.step.Which.TheVariants.{Ahead, Main}
-use Rattle.command_agent.specs.Machine.{Machine, is_ahead, is_sent}
-use Rattle.command_agent.specs.Steps.{reply_step}
-use Rattle.sbp_journal.specs.declared.outbox.Outgoing.{Outgoing}
-use Rattle.sbp_journal.specs.Outgoings.{OutboxState}
-use Rattle.sbp_target.specs.declared.desk.Desk.{Desk}
-use Rattle.sbp_target.specs.declared.purpose.Purpose.{Purpose}
+use Rattle.sbp_world.proofs.Words.Std.{◌≡◌, ◌∙◌, refl, sym, ap, subst, ℕ, ◌<◌, nat_lt, Bool, true, false, cond, List, length, Option, Some, None, slice_set, length-set}
+use Rattle.sbp_world.proofs.Words.Wire.{LabelParts, Asked, Body, block_write, Layer, asking_step, Outgoing, OutboxState}
+use Rattle.sbp_world.proofs.Words.Target.{Login, block, Disk, disk_at, Told, AgentStep, Which, Ahead, Main, Machine, is_ahead, is_sent, reply_step, Desk, Purpose, Sent, follow, after, is_that, taken, which_in, NodeState, Scene, desk_at, login_at, scene, Stage, advance, announced_by, came, changed_by, follow_all, plain_in, replied, replied_by, replied_to, scene_of, served_login, stage, whole, request_step, sent_by, with_packet, unsolicited_by, unsolicited_from, if_served, ahead_under, Announced, pushes, stay, withholds}
+use Rattle.sbp_world.proofs.Words.Initiator.{Answer}
+use Rattle.sbp_world.proofs.Words.World.{AllAsk, AsksReally, IsStill, IsUnder, Left, RepliesLaw, main_body}
 use Rattle.sbp_target.specs.declared.purpose.Purpose.TheVariants as purposes
-use Rattle.sbp_target.specs.declared.purpose.Sent.{Sent}
-use Rattle.sbp_target.specs.Agents.{follow}
-use Rattle.sbp_target.specs.Calls.{after}
-use Rattle.sbp_target.specs.Desks.{is_that, taken, which_in}
-use Rattle.sbp_target.specs.Nodes.{NodeState, Scene, desk_at, login_at, scene}
-use Rattle.sbp_target.specs.Replies.{Stage, advance, announced_by, came, changed_by, follow_all, plain_in, replied, replied_by, replied_to, scene_of, served_login, stage, whole}
-use Rattle.sbp_target.specs.Sending.{request_step, sent_by, with_packet}
-use Rattle.sbp_target.specs.Units.{unsolicited_by, unsolicited_from}
-use Rattle.target_base.specs.Logins.{if_served}
 use Rattle.sbp_target.proofs.Histories.Calling.{Good, not_eight}
 use Rattle.sbp_target.proofs.Histories.Following.{Fits}
 use Rattle.sbp_target.proofs.Histories.Settled.{all_good}
 use Rattle.sbp_target.proofs.Histories.Stepped.{Behind, Over, ahead_replied, main_replied}
-use Rattle.agent_laws.specs.Along.Requests.{ahead_under}
-use Rattle.sbp_world.specs.Agents.Asked.{AllAsk, AsksReally, IsStill, IsUnder, Left, RepliesLaw, main_body}
 use Rattle.sbp_world.proofs.Agents.AskedFollows.{Followed, bare_of, desk_other, followed, left_as, left_more, still_body}
 use Rattle.sbp_world.proofs.Agents.AskedLate.{ahead_of, all_by, asks_more, follow_keeps, follow_logins, none_sent, quiet_follow, same_login}
 use Rattle.sbp_world.proofs.Agents.AskedSteps.{under_law}
 use Rattle.sbp_world.proofs.Agents.Sized.{still_sized}
 use Rattle.sbp_world.proofs.Agents.Walk.{desk_set}
-use Rattle.sbp_target.specs.Histories.Moves.{Announced, pushes, stay, withholds}
 use Rattle.sbp_target.proofs.Histories.Moved.{announced_moves}
 use Rattle.sbp_target.proofs.Histories.Views.{kept}
 

@@ -1,33 +1,17 @@
 -- A request that the target gets leaves all desks waiting for what left.
-use Rattle.std.proofs.Common.{◌≡◌, refl, sym, ap, subst, ℕ, ◌<◌, ◌∙◌, Bool, true, false, cond, List, [], length, Option, Result, Ok, Err}
-use Rattle.std.specs.Prelude.{slice_index_or}
-use Rattle.async_packet.specs.Packet.{Packet, header_in}
-use Rattle.label_table.specs.Bodies.{Body}
-use Rattle.label_table.specs.Layer.{Layer}
-use Rattle.login_table.specs.Table.{Table, place_at}
-use Rattle.mgmt_agent.specs.declared.operation.Busy.{Busy}
+use Rattle.sbp_world.proofs.Words.Std.{◌≡◌, refl, sym, ap, subst, ℕ, ◌<◌, ◌∙◌, Bool, true, false, cond, List, [], length, Option, Result, Ok, Err, slice_index_or}
+use Rattle.sbp_world.proofs.Words.Wire.{Packet, header_in, Body, Layer, Judged, OutboxState}
+use Rattle.sbp_world.proofs.Words.Target.{Table, place_at, Busy, Access, Demand, address_error, complete, conflict_error, demand_of, Desk, Purpose, Sent, after, new_desk, ask_manager, NodeState, Scene, desk_at, scene, answered, is_barred, serve, served_as, start, started_by}
+use Rattle.sbp_world.proofs.Words.Initiator.{Ask}
+use Rattle.sbp_world.proofs.Words.World.{AllAsk, AsksReally, Left, RequestsAskLaw}
 use Rattle.mgmt_agent.specs.Machine as management
-use Rattle.orb_layout.specs.declared.ask.Ask.{Ask}
 use Rattle.sbp_journal.specs.declared.cause.Cause.TheVariants as ignored
-use Rattle.sbp_journal.specs.declared.cause.Judged.{Judged}
 use Rattle.sbp_journal.specs.declared.cause.Judged.TheVariants as judged
-use Rattle.sbp_journal.specs.Outgoings.{OutboxState}
-use Rattle.target_base.specs.declared.address.Access.{Access}
-use Rattle.target_base.specs.declared.address.Demand.{Demand}
 use Rattle.target_base.specs.declared.address.Demand.TheVariants as demands
-use Rattle.target_base.specs.Addresses.{address_error, complete, conflict_error, demand_of}
-use Rattle.sbp_target.specs.declared.desk.Desk.{Desk}
-use Rattle.sbp_target.specs.declared.purpose.Purpose.{Purpose}
-use Rattle.sbp_target.specs.declared.purpose.Sent.{Sent}
-use Rattle.sbp_target.specs.Calls.{after}
-use Rattle.sbp_target.specs.Desks.{new_desk}
-use Rattle.sbp_target.specs.Management.{ask_manager}
-use Rattle.sbp_target.specs.Nodes.{NodeState, Scene, desk_at, scene}
-use Rattle.sbp_target.specs.Serving.{answered, is_barred, request_step, serve, served_as, start, started_by}
+use Rattle.sbp_target.specs.Serving.{request_step}
 use Rattle.sbp_target.proofs.Histories.Calling.{Good}
 use Rattle.sbp_target.proofs.Histories.Pass as pass
 use Rattle.sbp_target.proofs.Histories.Settled.{all_good, reaches}
-use Rattle.sbp_world.specs.Agents.Asked.{AllAsk, AsksReally, Left, RequestsAskLaw}
 use Rattle.sbp_world.proofs.Agents.AskedAccesses.{accesses_fine, answered_fine}
 use Rattle.sbp_world.proofs.Agents.AskedLate.{asks_more, keeps_left}
 use Rattle.sbp_world.proofs.Agents.AskedReplies.{Fine}

@@ -1,16 +1,10 @@
 -- In every run an agent of the terms waits for what it asked for.
-use Rattle.std.proofs.Common.{subst, sym, ◌∷◌, ◌++◌, map}
-use Rattle.sbp_journal.specs.Run.{asked, said}
-use Rattle.sbp_world.specs.Making.{ready_logins}
-use Rattle.sbp_world.specs.Runs.{after, beginning}
-use Rattle.sbp_world.specs.Settling.{after_all}
-use Rattle.sbp_world.specs.Worlds.{begun}
+use Rattle.sbp_world.proofs.Words.Std.{subst, sym, ◌∷◌, ◌++◌, map}
+use Rattle.sbp_world.proofs.Words.Wire.{asked, said}
+use Rattle.sbp_world.proofs.Words.World.{ready_logins, after, beginning, after_all, begun, AreAgentsAt, AreAskedAt, AskedBetweenLaw, AskedRunLaw, AreHeldAt}
 use Rattle.sbp_world.proofs.Agents.Management.Lines.{all_heard, opens}
 use Rattle.sbp_world.proofs.Agents.Management.Runs.{holds_after, no_repeats, not_reset}
 use Rattle.sbp_world.proofs.Agents.Management.Still.{hist}
-use Rattle.sbp_world.specs.Agents.Agents.{AreAgentsAt}
-use Rattle.sbp_world.specs.Agents.AskedRuns.{AreAskedAt, AskedBetweenLaw, AskedRunLaw}
-use Rattle.sbp_world.specs.Agents.Holders.{AreHeldAt}
 use Rattle.sbp_world.proofs.Agents.AskedAgents.{are_asked}
 use Rattle.sbp_world.proofs.Agents.CrewRuns.{agents_between_law, agents_run_law}
 use Rattle.sbp_world.proofs.Agents.Holders.{holders_between_law, holders_law}

@@ -1,22 +1,11 @@
 -- A generation that is seen, and a key that is set, leave all desks waiting for what left.
-use Rattle.std.proofs.Common.{arith, ◌≡◌, ◌∙◌, sym, ap, ℕ, ◌<◌, Bool, true, false, List, length, None}
+use Rattle.sbp_world.proofs.Words.Std.{arith, ◌≡◌, ◌∙◌, sym, ap, ℕ, ◌<◌, Bool, true, false, List, length, None, false≢true}
+use Rattle.sbp_world.proofs.Words.Wire.{Layer, seeing_step, Outgoing, OutboxState}
+use Rattle.sbp_world.proofs.Words.Target.{Machine, is_ahead, is_sent, reset_step, Desk, Purpose, after, disabled, new_desk, NodeState, desk_at, scene, cleared_node, held_all, reset_by, seen, with_key, cut_all}
+use Rattle.sbp_world.proofs.Words.World.{AllAsk, AsksReally, SightsLaw}
 use Rattle.std.proofs.lemmas.List.{get_or-map}
-use Rattle.std.proofs.lemmas.Bool.{false≢true}
-use Rattle.label_table.specs.Layer.{Layer, seeing_step}
-use Rattle.command_agent.specs.Machine.{Machine, is_ahead, is_sent}
-use Rattle.command_agent.specs.Steps.{reset_step}
 use Rattle.sbp_journal.specs.declared.cause.CutCause.TheVariants as cuts
-use Rattle.sbp_journal.specs.declared.outbox.Outgoing.{Outgoing}
-use Rattle.sbp_journal.specs.Outgoings.{OutboxState}
-use Rattle.sbp_target.specs.declared.desk.Desk.{Desk}
-use Rattle.sbp_target.specs.declared.purpose.Purpose.{Purpose}
-use Rattle.sbp_target.specs.Calls.{after}
-use Rattle.sbp_target.specs.Desks.{disabled, new_desk}
-use Rattle.sbp_target.specs.Nodes.{NodeState, desk_at, scene}
-use Rattle.sbp_target.specs.Receiving.{cleared_node, held_all, reset_by, seen, with_key}
-use Rattle.sbp_target.specs.Units.{cut_all}
 use Rattle.sbp_target.proofs.Histories.Settled.{all_good}
-use Rattle.sbp_world.specs.Agents.Asked.{AllAsk, AsksReally, SightsLaw}
 use Rattle.sbp_world.proofs.Agents.Cuts.{all_cut}
 use Rattle.sbp_world.proofs.Agents.Sized.{idle_sized}
 

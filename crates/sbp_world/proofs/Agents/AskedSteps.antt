@@ -1,42 +1,19 @@
 -- What an agent has under way behind a step is what the step asked for.
-use Rattle.std.proofs.Common.{◌≡◌, refl, ap, sym, ◌∙◌, ℕ, ◌+◌, ◌*◌, ◌==◌, ◌++◌, Bool, true, false, cond, length, List, Option, Some, None, Result, Ok, Err}
-use Rattle.std.proofs.lemmas.Bool.{false≢true, true≢false}
-use Rattle.orb_layout.specs.declared.ask.Ask.{Ask}
-use Rattle.orb_layout.specs.declared.ask.Ask.TheVariants.{Read}
-use Rattle.orb_layout.specs.declared.ask.FailCause.{FailCause}
+use Rattle.sbp_world.proofs.Words.Std.{◌≡◌, refl, ap, sym, ◌∙◌, ℕ, ◌+◌, ◌*◌, ◌==◌, ◌++◌, Bool, true, false, cond, length, List, Option, Some, None, Result, Ok, Err, false≢true, true≢false}
+use Rattle.sbp_world.proofs.Words.Target.{Need, Outcome, PlainDisk, need_of, Told, Phase, ReadAhead, AgentStep, Move, PointRefusal, AgentState, Ahead, Main, Machine, chunk_of, is_ahead, is_sent, plan_of, state_in, death_by, reads_table, verdict, abort_step, advanced, ahead_lost, ahead_of, ahead_read, ahead_step, answer_chunk, check_step, checked, chunk_written, data_grown, data_read, data_step, dead_step, doorbell_in, doorbell_step, elements_read, end_step, fail_step, fetch_step, follow_step, judge_step, judged, lost_step, main_lost, next_read, orb_read, point_in, point_step, quiet, ran_as, reply_step, reread_step, run_step, sent, served, table_read, told_or, turn_step, turned, unread_buffer, wait_step, with_ahead, with_outcome, ahead_ask, ahead_under, main_ask, main_under}
+use Rattle.sbp_world.proofs.Words.Initiator.{Ask, Read, FailCause, OrbPointer, At, Null, StatusKind, command_orb, pointer_at, Answer, payload_of, write_failure, PageFault, elements_of, first_fault}
+use Rattle.sbp_world.proofs.Words.World.{IsBare, IsStill, IsUnder, UnderLaw, reads_none}
 use Rattle.orb_layout.specs.declared.ask.FailCause.TheVariants as causes
-use Rattle.orb_layout.specs.declared.pointer.OrbPointer.{OrbPointer}
-use Rattle.orb_layout.specs.declared.pointer.OrbPointer.TheVariants.{At, Null}
-use Rattle.orb_layout.specs.declared.status.StatusKind.{StatusKind}
 use Rattle.orb_layout.specs.declared.status.StatusKind.TheVariants as kinds
-use Rattle.orb_layout.specs.CommandOrbs.{command_orb}
-use Rattle.orb_layout.specs.Pointers.{pointer_at}
-use Rattle.orb_layout.specs.Replies.{Answer, payload_of, write_failure}
-use Rattle.page_table.specs.declared.fault.PageFault.{PageFault}
-use Rattle.page_table.specs.Elements.{elements_of, first_fault}
-use Rattle.rbc_disk.specs.declared.command.Need.{Need}
 use Rattle.rbc_disk.specs.declared.command.Need.TheVariants as needs
-use Rattle.rbc_disk.specs.declared.command.Outcome.{Outcome}
 use Rattle.rbc_disk.specs.declared.command.Outcome.TheVariants as outcomes
-use Rattle.rbc_disk.specs.Units.{PlainDisk}
-use Rattle.rbc_disk.specs.Runs.{need_of, Told}
-use Rattle.command_agent.specs.declared.phase.Phase.{Phase}
 use Rattle.command_agent.specs.declared.phase.Phase.TheVariants as phases
-use Rattle.command_agent.specs.declared.phase.ReadAhead.{ReadAhead}
 use Rattle.command_agent.specs.declared.phase.ReadAhead.TheVariants as aheads
-use Rattle.command_agent.specs.declared.step.AgentStep.{AgentStep}
-use Rattle.command_agent.specs.declared.step.Move.{Move}
 use Rattle.command_agent.specs.declared.step.Move.TheVariants as moves
-use Rattle.command_agent.specs.declared.step.PointRefusal.{PointRefusal}
-use Rattle.command_agent.specs.declared.step.AgentState.{AgentState}
 use Rattle.command_agent.specs.declared.step.AgentState.TheVariants as states
-use Rattle.command_agent.specs.declared.step.Which.TheVariants.{Ahead, Main}
-use Rattle.command_agent.specs.Machine.{Machine, chunk_of, is_ahead, is_sent, plan_of, state_in}
-use Rattle.command_agent.specs.Checks.{death_by, reads_table, verdict}
-use Rattle.command_agent.specs.Steps.{abort_step, advanced, ahead_lost, ahead_of, ahead_read, ahead_step, answer_chunk, answer_step, check_step, checked, chunk_written, data_grown, data_read, data_step, dead_step, doorbell_in, doorbell_step, elements_read, end_step, fail_step, fetch_step, follow_step, judge_step, judged, lost_step, main_lost, next_read, orb_read, point_in, point_step, quiet, ran_as, reply_step, reread_step, run_step, sent, served, status_written, table_read, told_or, turn_step, turned, unread_buffer, wait_step, with_ahead, with_outcome}
+use Rattle.command_agent.specs.Steps.{answer_step, status_written}
 use Rattle.command_agent.specs.Steps as steps
-use Rattle.agent_laws.specs.Along.Requests.{ahead_ask, ahead_under, main_ask, main_under}
-use Rattle.sbp_world.specs.Agents.Asked.{IsBare, IsStill, IsUnder, UnderLaw, asks, reads_none}
+use Rattle.sbp_world.specs.Agents.Asked.{asks}
 use Rattle.sbp_world.proofs.Agents.Sized.{answer_sized, idle_sized, nothing_sized, read_sized, write_sized}
 
 -- ---- the present ORB ends, or the agent becomes dead

@@ -1,19 +1,11 @@
 -- A second that goes by leaves all desks waiting for what left.
-use Rattle.std.proofs.Common.{◌≡◌, ◌∙◌, refl, sym, ap, subst, ℕ, zero, suc, ◌+◌, Bool, true, false, cond, List, length, Option, Some, None}
-use Rattle.std.proofs.Math.ListN.{get_or-map}
-use Rattle.login_table.specs.declared.login.Login.{Login}
-use Rattle.login_table.specs.Table.{is_last, one_less, tick_step, ticked}
-use Rattle.sbp_journal.specs.declared.outbox.Outgoing.{Outgoing}
+use Rattle.sbp_world.proofs.Words.Std.{◌≡◌, ◌∙◌, refl, sym, ap, subst, ℕ, zero, suc, ◌+◌, Bool, true, false, cond, List, length, Option, Some, None, get_or-map, slice_index_or, same_Some, none-some}
+use Rattle.sbp_world.proofs.Words.Wire.{Outgoing, OutboxState}
+use Rattle.sbp_world.proofs.Words.Target.{Login, is_last, one_less, tick_step, after, NodeState, desk_at, login_at, scene, expired_from, with_side}
+use Rattle.sbp_world.proofs.Words.World.{AllAsk, AsksReally, TicksAskLaw}
+use Rattle.login_table.specs.Table.{ticked}
 use Rattle.sbp_journal.specs.declared.side.Side.TheVariants as sides
-use Rattle.sbp_journal.specs.Outgoings.{OutboxState}
-use Rattle.sbp_target.specs.Calls.{after}
-use Rattle.sbp_target.specs.Nodes.{NodeState, desk_at, login_at, scene}
 use Rattle.sbp_target.specs.Receiving as receiving
-use Rattle.sbp_target.specs.Receiving.{expired_from}
-use Rattle.sbp_target.specs.Sending.{with_side}
-use Rattle.std.specs.Prelude.{slice_index_or}
-use Rattle.std.proofs.lemmas.Option.{same_Some, none-some}
-use Rattle.sbp_world.specs.Agents.Asked.{AllAsk, AsksReally, TicksAskLaw}
 
 told_same : (left at : ℕ) (logins : List ℕ) (o : OutboxState) → (expired_from left at logins o).packets ≡ o.packets
 unfolding expired_from

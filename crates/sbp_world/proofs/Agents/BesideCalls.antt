@@ -1,52 +1,20 @@
 -- A call of a target is the same whatever packets it has handed out before. So what its desks wait for is, after every list of calls, among the packets
 -- that left in these.
-use Rattle.std.proofs.Common.{◌≡◌, ◌∙◌, refl, sym, ap, subst, ℕ, zero, suc, ◌+◌, ◌<◌, Bool, true, false, cond, List, [], ◌∷◌, ◌++◌, append-nil, length, Option, Some, None, Result, Ok, Err}
-use Rattle.std.specs.Prelude.{slice_index_or}
-use Rattle.async_packet.specs.Labels.{LabelParts}
-use Rattle.async_packet.specs.Packet.{Packet, header_in}
-use Rattle.label_table.specs.declared.reply.Stale.{Stale}
-use Rattle.label_table.specs.Layer.{Finding, Layer, answering_step, expiring_step, judging_step, of_again, of_generation, of_grammar, of_label, of_request, of_response, seeing_step}
-use Rattle.login_table.specs.declared.login.Login.{Login}
-use Rattle.login_table.specs.Table.{Table, is_live, place_at, tick_step}
-use Rattle.mgmt_agent.specs.declared.operation.Busy.{Busy}
+use Rattle.sbp_world.proofs.Words.Std.{◌≡◌, ◌∙◌, refl, sym, ap, subst, ℕ, zero, suc, ◌+◌, ◌<◌, Bool, true, false, cond, List, [], ◌∷◌, ◌++◌, length, Option, Some, None, Result, Ok, Err, slice_index_or}
+use Rattle.sbp_world.proofs.Words.Wire.{LabelParts, Packet, header_in, Stale, Finding, Layer, answering_step, expiring_step, judging_step, of_again, of_generation, of_grammar, of_label, of_request, of_response, seeing_step, Judged, Outgoing, OutboxState, empty_outbox}
+use Rattle.sbp_world.proofs.Words.Target.{Login, Table, is_live, place_at, tick_step, Busy, disk_at, Told, AgentStep, PointRefusal, Which, Machine, doorbell_step, address_error, complete, conflict_error, demand_of, Access, Demand, Desk, Purpose, cut, Call, after, done, lets_expire, packets_after, receives, sees, sets_key, ticks, expired_desk, point_desk, which_in, ask_manager, Scene, desk_at, login_at, scene, with_agent, with_desk, answer_in, cleared_node, concluded, expire_agent, expired, expired_by, expired_from, expired_in, expired_with, held_all, held_from, judged_scene, received, received_as, reset_by, seen, tell_held, ticked, ticked_by, timed_out, with_layer, Stage, Whole, advance, advanced_with, came, replied, replied_by, replied_to, scene_of, served_login, stage, whole, answer_step, answered_by, with_side, accessed_by, answered, asked_in, enabled, is_barred, point, pointed_by, rcode_of, ring, rung_by, serve, served_as, start, started_by, orb_of, cut_all}
+use Rattle.sbp_world.proofs.Words.Initiator.{Ask, OrbPointer, Answer, Expired}
+use Rattle.sbp_world.proofs.Words.World.{AllAsk}
+use Rattle.std.proofs.Common.{append-nil}
 use Rattle.mgmt_agent.specs.Machine as management
-use Rattle.orb_layout.specs.declared.ask.Ask.{Ask}
-use Rattle.orb_layout.specs.declared.pointer.OrbPointer.{OrbPointer}
-use Rattle.orb_layout.specs.Replies.{Answer, Expired}
-use Rattle.rbc_disk.specs.Disk.{disk_at}
-use Rattle.rbc_disk.specs.Runs.{Told}
-use Rattle.command_agent.specs.declared.step.AgentStep.{AgentStep}
-use Rattle.command_agent.specs.declared.step.PointRefusal.{PointRefusal}
-use Rattle.command_agent.specs.declared.step.Which.{Which}
-use Rattle.command_agent.specs.Machine.{Machine}
-use Rattle.command_agent.specs.Steps.{doorbell_step}
 use Rattle.sbp_journal.specs.declared.cause.Cause.TheVariants as ignored
 use Rattle.sbp_journal.specs.declared.cause.CutCause.TheVariants as cuts
-use Rattle.sbp_journal.specs.declared.cause.Judged.{Judged}
 use Rattle.sbp_journal.specs.declared.cause.Judged.TheVariants as judgements
-use Rattle.sbp_journal.specs.declared.outbox.Outgoing.{Outgoing}
 use Rattle.sbp_journal.specs.declared.side.Side.TheVariants as sides
-use Rattle.sbp_journal.specs.Outgoings.{OutboxState, empty_outbox}
-use Rattle.target_base.specs.Addresses.{address_error, complete, conflict_error, demand_of}
-use Rattle.target_base.specs.declared.address.Access.{Access}
 use Rattle.target_base.specs.declared.address.Access.TheVariants as accesses
-use Rattle.target_base.specs.declared.address.Demand.{Demand}
 use Rattle.target_base.specs.declared.address.Demand.TheVariants as demands
-use Rattle.sbp_target.specs.declared.desk.Desk.{Desk}
-use Rattle.sbp_target.specs.declared.purpose.Purpose.{Purpose}
 use Rattle.sbp_target.specs.declared.purpose.Purpose.TheVariants as purposes
-use Rattle.sbp_target.specs.Agents.{cut}
-use Rattle.sbp_target.specs.Calls.{Call, after, done, lets_expire, packets_after, receives, sees, sets_key, ticks}
-use Rattle.sbp_target.specs.Desks.{expired_desk, point_desk, which_in}
-use Rattle.sbp_target.specs.Management.{ask_manager}
-use Rattle.sbp_target.specs.Nodes.{Scene, desk_at, login_at, scene, with_agent, with_desk}
-use Rattle.sbp_target.specs.Receiving.{answer_in, cleared_node, concluded, expire_agent, expired, expired_by, expired_from, expired_in, expired_with, held_all, held_from, judged_scene, received, received_as, reset_by, seen, tell_held, ticked, ticked_by, timed_out, with_layer}
-use Rattle.sbp_target.specs.Replies.{Stage, Whole, advance, advanced_with, came, replied, replied_by, replied_to, scene_of, served_login, stage, whole}
-use Rattle.sbp_target.specs.Sending.{answer_step, answered_by, with_side}
-use Rattle.sbp_target.specs.Serving.{accessed_by, answered, asked_at, asked_in, enabled, is_barred, point, pointed_by, rcode_of, request_step, ring, rung_by, serve, served_as, start, started_by}
-use Rattle.sbp_target.specs.Telling.{orb_of}
-use Rattle.sbp_target.specs.Units.{cut_all}
-use Rattle.sbp_world.specs.Agents.Asked.{AllAsk}
+use Rattle.sbp_target.specs.Serving.{asked_at, request_step}
 use Rattle.sbp_world.proofs.Agents.AskedCalls.{calls_law}
 use Rattle.sbp_world.proofs.Agents.Beside.{also, asks_manager, box, cuts_all, cuts_it, follows, follows_all, manages, packs}
 

@@ -1,51 +1,24 @@
 -- In each call of the target who has a place changes as its logins do.
-use Rattle.std.proofs.Common.{◌≡◌, ◌∙◌, refl, sym, ap, subst, ℕ, zero, suc, ◌+◌, nat_eq, is_some, Bool, true, false, cond, List, [], length, map, Option, Some, None, Result, Ok, Err}
-use Rattle.std.specs.Prelude.{slice_index_or}
-use Rattle.std.proofs.Math.ListN.{get_or-map}
-use Rattle.async_packet.specs.Labels.{LabelParts}
-use Rattle.async_packet.specs.Packet.{Packet, header_in}
-use Rattle.label_table.specs.declared.reply.Stale.{Stale}
+use Rattle.sbp_world.proofs.Words.Std.{◌≡◌, ◌∙◌, refl, sym, ap, subst, ℕ, zero, suc, ◌+◌, nat_eq, is_some, Bool, true, false, cond, List, [], length, map, Option, Some, None, Result, Ok, Err, slice_index_or, get_or-map}
+use Rattle.sbp_world.proofs.Words.Wire.{LabelParts, Packet, header_in, Stale, under_way, Finding, Layer, expiring_step, judging_step, of_again, of_generation, of_grammar, of_label, of_request, of_response, reply_kind, Topology, Judged, OutboxState, empty_outbox}
+use Rattle.sbp_world.proofs.Words.Target.{Login, Table, held, is_live, place_at, tick_step, Busy, Disk, Told, Demand, demand_of, Purpose, alone, lets_expire, ticks, manage, managed_in, NodeState, Scene, scene, answer_in, cleared_node, concluded, expired, expired_from, expired_in, held_from, judged_scene, received, received_as, reset_by, tell_held, target_ticked, timed_out, with_layer, Whole, whole, with_side, answered, is_barred, serve, served_as, start, target_started, cut_all}
+use Rattle.sbp_world.proofs.Words.Initiator.{Ask, Answer, Expired}
+use Rattle.sbp_world.proofs.Words.Laws.{at_id, second_gone}
+use Rattle.sbp_world.proofs.Words.World.{initiator_of, told, told_all, WorldState, demanded, lapsed, requested, Agrees, Office, by_sides, replied, started, started_by, ticked}
 use Rattle.label_table.specs.History as wire
-use Rattle.label_table.specs.History.{under_way}
-use Rattle.label_table.specs.Layer.{Finding, Layer, expiring_step, judging_step, of_again, of_generation, of_grammar, of_label, of_request, of_response}
-use Rattle.label_table.specs.Requests.{reply_kind}
-use Rattle.login_table.specs.declared.login.Login.{Login}
-use Rattle.login_table.specs.Table.{Table, held, is_live, place_at, tick_step}
-use Rattle.mgmt_agent.specs.declared.operation.Busy.{Busy}
 use Rattle.mgmt_agent.specs.Machine as management
-use Rattle.orb_layout.specs.declared.ask.Ask.{Ask}
-use Rattle.orb_layout.specs.Replies.{Answer, Expired}
-use Rattle.rbc_disk.specs.Disk.{Disk}
-use Rattle.rbc_disk.specs.Runs.{Told}
-use Rattle.sbp_bus.specs.declared.generations.Topology.{Topology}
 use Rattle.sbp_journal.specs.declared.cause.CutCause.TheVariants as cuts
-use Rattle.sbp_journal.specs.declared.cause.Judged.{Judged}
 use Rattle.sbp_journal.specs.declared.cause.Judged.TheVariants as judgements
 use Rattle.sbp_journal.specs.declared.cause.Cause.TheVariants as ignored
 use Rattle.sbp_journal.specs.declared.side.Side.TheVariants as sides
-use Rattle.sbp_journal.specs.Outgoings.{OutboxState, empty_outbox}
-use Rattle.sbp_laws.specs.Targets.{at_id, second_gone}
-use Rattle.target_base.specs.declared.address.Demand.{Demand}
 use Rattle.target_base.specs.declared.address.Demand.TheVariants as demands
-use Rattle.target_base.specs.Addresses.{demand_of}
-use Rattle.sbp_target.specs.declared.purpose.Purpose.{Purpose}
 use Rattle.sbp_target.specs.declared.purpose.Purpose.TheVariants as purposes
-use Rattle.sbp_target.specs.Calls.{alone, lets_expire, ticks}
-use Rattle.sbp_target.specs.Management.{manage, managed_in}
-use Rattle.sbp_target.specs.Nodes.{NodeState, Scene, scene}
-use Rattle.sbp_target.specs.Receiving.{answer_in, cleared_node, concluded, expired, expired_from, expired_in, held_from, judged_scene, received, received_as, reset_by, tell_held, ticked as target_ticked, timed_out, with_layer}
-use Rattle.sbp_target.specs.Replies.{Whole, whole}
-use Rattle.sbp_target.specs.Sending.{with_side}
-use Rattle.sbp_target.specs.Serving.{answered, is_barred, request_step, serve, served_as, start, started_by as target_started}
-use Rattle.sbp_target.specs.Units.{cut_all}
-use Rattle.sbp_world.specs.Telling.{initiator_of, told, told_all}
-use Rattle.sbp_world.specs.Worlds.{WorldState}
+use Rattle.sbp_target.specs.Serving.{request_step}
 use Rattle.sbp_target.proofs.Histories.Calling.{Good}
 use Rattle.sbp_target.proofs.Histories.Found.{IsFound, found}
 use Rattle.sbp_target.proofs.Histories.Primitives.{Known, closing_known, expiring_known, live_on}
 use Rattle.sbp_target.proofs.Histories.Seats.{Lives}
-use Rattle.sbp_world.specs.Agents.Management.Calls.{delivered, demanded, lapsed, requested}
-use Rattle.sbp_world.specs.Agents.Management.Offices.{Agrees, Office, by_sides, replied, started, started_by, ticked}
+use Rattle.sbp_world.specs.Agents.Management.Calls.{delivered}
 use Rattle.sbp_world.proofs.Agents.Management.Calls.{barred_same, from_self}
 use Rattle.sbp_world.proofs.Agents.Management.Calm.{Calm, From, accesses_by, answers, cuts_all, expires_agent, replies}
 use Rattle.sbp_world.proofs.Agents.Management.Managing.{quiet_says}

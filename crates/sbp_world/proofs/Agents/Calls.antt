@@ -1,37 +1,17 @@
 -- Each call of a target but a reply to its management operation changes its agents as its notes do.
-use Rattle.std.proofs.Common.{arith, ◌≡◌, ◌≢◌, ◌∙◌, refl, sym, ap, subst, ℕ, ◌<◌, nat_eq, nat_lt, Bool, true, false, cond, List, [], length, map, Option, Some, None}
-use Rattle.std.specs.Prelude.{slice_index_or, slice_set}
-use Rattle.std.proofs.lemmas.Bool.Decides.{nat_tests}
-use Rattle.std.proofs.Math.ListN.{length-set}
-use Rattle.std.proofs.lemmas.List.{get_or-map, length-map}
-use Rattle.async_packet.specs.Labels.{LabelParts}
-use Rattle.label_table.specs.declared.reply.ReplyKind.{ReplyKind}
-use Rattle.label_table.specs.History.{under_way}
-use Rattle.label_table.specs.Layer.{Layer}
-use Rattle.login_table.specs.declared.login.Login.{Login}
-use Rattle.orb_layout.specs.Replies.{Answer, Expired}
-use Rattle.rbc_disk.specs.Disk.{Disk}
-use Rattle.rbc_disk.specs.Runs.{Told}
-use Rattle.command_agent.specs.declared.step.Which.{Which}
-use Rattle.command_agent.specs.Machine.{Machine}
-use Rattle.command_agent.specs.Steps.{reset_step}
-use Rattle.sbp_journal.specs.Outgoings.{empty_outbox}
-use Rattle.sbp_laws.specs.Targets.{Agent, agent_over, cut_agent, new_agent}
-use Rattle.sbp_target.specs.declared.desk.Desk.{Desk}
-use Rattle.sbp_target.specs.declared.purpose.Purpose.{Purpose}
+use Rattle.sbp_world.proofs.Words.Std.{arith, ◌≡◌, ◌≢◌, ◌∙◌, refl, sym, ap, subst, ℕ, ◌<◌, nat_eq, nat_lt, Bool, true, false, cond, List, [], length, map, Option, Some, None, slice_index_or, slice_set, nat_tests, length-set, length-map}
+use Rattle.sbp_world.proofs.Words.Wire.{LabelParts, ReplyKind, under_way, Layer, empty_outbox}
+use Rattle.sbp_world.proofs.Words.Target.{Login, Disk, Told, Which, Machine, reset_step, Desk, Purpose, sent_to, new_desk, which_in, NodeState, Scene, desk_at, login_at, scene, expired_by, TellsBy, plain_in, replied_by, scene_of, served_login, stage, whole}
+use Rattle.sbp_world.proofs.Words.Initiator.{Answer, Expired}
+use Rattle.sbp_world.proofs.Words.Laws.{Agent, agent_over, cut_agent, new_agent}
+use Rattle.sbp_world.proofs.Words.World.{Office, AreOf, Follow, Request, ToldAlike, agent_in, crew_over, crew_packets, crew_sides, with_requests}
+use Rattle.std.proofs.lemmas.List.{get_or-map}
 use Rattle.sbp_target.specs.declared.purpose.Purpose.TheVariants as purposes
-use Rattle.sbp_target.specs.Agents.{sent_to}
-use Rattle.sbp_target.specs.Desks.{new_desk, which_in}
-use Rattle.sbp_target.specs.Nodes.{NodeState, Scene, desk_at, login_at, scene}
-use Rattle.sbp_target.specs.Receiving.{expired_by}
-use Rattle.sbp_target.specs.Replies.{TellsBy, plain_in, replied_by, scene_of, served_login, stage, whole}
 use Rattle.sbp_target.proofs.Histories.Calling.{Good, not_eight}
 use Rattle.sbp_target.proofs.Histories.Rested.{Came, came_for, for_ahead, for_main}
 use Rattle.sbp_target.proofs.Histories.Seats.{split}
 use Rattle.sbp_world.proofs.Agents.Management.Calm.{AreQuiet}
-use Rattle.sbp_world.specs.Agents.Management.Offices.{Office}
-use Rattle.sbp_world.specs.Agents.Calls.{AreOf, Follow, replied}
-use Rattle.sbp_world.specs.Agents.Crews.{Request, ToldAlike, agent_in, crew_over, crew_packets, crew_sides, with_requests}
+use Rattle.sbp_world.specs.Agents.Calls.{replied}
 use Rattle.sbp_world.proofs.Agents.Cuts.{AreCut, IsKept, cut_settled, kept_self}
 use Rattle.sbp_world.proofs.Agents.Follows.{Settled}
 use Rattle.sbp_world.proofs.Agents.Lists.{AreIdle, AreNoEntries, all_over, at_other, at_own, idle_packets, idle_sides, turn_over, turn_packets, turn_sides}

@@ -1,54 +1,21 @@
 -- What a decision of the management agent makes of the registers: a login that leaves has its register disabled, and so has one that is entered, whose place no
 -- live login had.
-use Rattle.std.proofs.Common.{arith, ◌≡◌, ◌∙◌, refl, sym, ap, subst, ℕ, zero, suc, ◌+◌, ◌<◌, ◌≤◌, nat_eq, nat_lt, Bool, true, false, cond, List, [], ◌∷◌, ◌++◌, append_assoc, length, map, Option, Some, None, Result, Ok, Err}
-use Rattle.std.specs.Prelude.{is_none, position, slice_index_or, slice_set}
-use Rattle.std.proofs.Math.ListN.{get_or-map}
-use Rattle.std.proofs.lemmas.Bool.Decides.{nat_tests}
-use Rattle.std.proofs.lemmas.List.{length-set, set_past}
-use Rattle.std.proofs.lemmas.List.Quantifiers.{position-Some}
-use Rattle.std.proofs.lemmas.Bool.{false≢true}
-use Rattle.async_packet.specs.Packet.{Packet, header_in}
-use Rattle.label_table.specs.declared.judgement.Asked.{Asked}
-use Rattle.label_table.specs.Bodies.{Body}
-use Rattle.label_table.specs.Layer.{Layer, asking_step}
+use Rattle.sbp_world.proofs.Words.Std.{arith, ◌≡◌, ◌∙◌, refl, sym, ap, subst, ℕ, zero, suc, ◌+◌, ◌<◌, ◌≤◌, nat_eq, nat_lt, Bool, true, false, cond, List, [], ◌∷◌, ◌++◌, append_assoc, length, map, Option, Some, None, Result, Ok, Err, is_none, position, slice_index_or, slice_set, get_or-map, nat_tests, set_past, position-Some, false≢true}
+use Rattle.sbp_world.proofs.Words.Wire.{Packet, header_in, Asked, Body, Layer, asking_step, function_word, login_if, CutCause, FunctionWord, Side, OutboxState, empty_outbox}
+use Rattle.sbp_world.proofs.Words.Target.{Login, Table, entered, is_live, place_at, Decision, Effect, ManagerStep, Busy, asked_by, state_in, abort_step, is_reset, Purpose, cut, told_cut, reset_desk, ask_manager, clear_one, cut_placed, decided_by, effect_by, failed_by, lose_operation, lost_in, manager_asked, manager_body, manager_lost, manager_sent, place_in, tell_failed, with_manager, NodeState, Scene, desk_at, scene, with_desk, expired_from, held_from, tell_held, asks_step, sent_by, with_side, answered, start, started_by, clear_from, clear_unit, cut_all}
+use Rattle.sbp_world.proofs.Words.Initiator.{Ask, FailCause, NoLabel}
+use Rattle.sbp_world.proofs.Words.Laws.{Decided, at_id, disabled_at, has_id}
+use Rattle.sbp_world.proofs.Words.World.{Office, by_managed, by_side, by_sides, placed, placed_by, AreLive, HasLive}
+use Rattle.std.proofs.lemmas.List.{length-set}
 use Rattle.label_table.proofs.Owned.{position_none, set_at}
-use Rattle.login_table.specs.declared.login.Login.{Login}
-use Rattle.login_table.specs.Table.{Table, entered, is_live, place_at}
 use Rattle.login_table.proofs.Searching.{within}
-use Rattle.mgmt_agent.specs.declared.decision.Decision.{Decision}
-use Rattle.mgmt_agent.specs.declared.decision.Effect.{Effect}
 use Rattle.mgmt_agent.specs.declared.decision.Effect.TheVariants as effects
-use Rattle.mgmt_agent.specs.declared.decision.ManagerStep.{ManagerStep}
-use Rattle.mgmt_agent.specs.declared.operation.Busy.{Busy}
-use Rattle.mgmt_agent.specs.Decisions.{asked_by}
 use Rattle.mgmt_agent.specs.Machine as management
-use Rattle.orb_layout.specs.declared.ask.Ask.{Ask}
-use Rattle.orb_layout.specs.declared.ask.FailCause.{FailCause}
-use Rattle.orb_layout.specs.Replies.{NoLabel}
-use Rattle.command_agent.specs.Machine.{state_in}
-use Rattle.command_agent.specs.Steps.{abort_step, is_reset}
-use Rattle.sbp_bus.specs.Words.{function_word, login_if}
-use Rattle.sbp_journal.specs.declared.cause.CutCause.{CutCause}
 use Rattle.sbp_journal.specs.declared.cause.CutCause.TheVariants as cuts
-use Rattle.sbp_journal.specs.declared.operation.FunctionWord.{FunctionWord}
 use Rattle.sbp_journal.specs.declared.operation.FunctionWord.TheVariants as functions
-use Rattle.sbp_journal.specs.declared.side.Side.{Side}
 use Rattle.sbp_journal.specs.declared.side.Side.TheVariants as sides
-use Rattle.sbp_journal.specs.Outgoings.{OutboxState, empty_outbox}
-use Rattle.sbp_laws.specs.Targets.{Decided, at_id, disabled_at, has_id}
-use Rattle.sbp_target.specs.declared.purpose.Purpose.{Purpose}
 use Rattle.sbp_target.specs.declared.purpose.Purpose.TheVariants as purposes
-use Rattle.sbp_target.specs.Agents.{cut, told_cut}
-use Rattle.sbp_target.specs.Desks.{reset_desk}
-use Rattle.sbp_target.specs.Management.{ask_manager, clear_one, cut_placed, decided_by, effect_by, failed_by, lose_operation, lost_in, manager_asked, manager_body, manager_lost, manager_sent, place_in, tell_failed, with_manager}
-use Rattle.sbp_target.specs.Nodes.{NodeState, Scene, desk_at, scene, with_desk}
-use Rattle.sbp_target.specs.Receiving.{expired_from, held_from, tell_held}
-use Rattle.sbp_target.specs.Sending.{request_step as asks_step, sent_by, with_side}
-use Rattle.sbp_target.specs.Serving.{answered, start, started_by}
-use Rattle.sbp_target.specs.Units.{clear_from, clear_unit, cut_all}
-use Rattle.sbp_world.specs.Agents.Management.Offices.{Office, by_managed, by_side, by_sides, placed, placed_by}
 use Rattle.sbp_world.proofs.Agents.Management.Places.{AreApart}
-use Rattle.sbp_world.specs.Agents.Enabled.{AreLive, HasLive}
 use Rattle.sbp_world.proofs.Agents.Disabling.{AreDisabling, IsDisabling, all_disabled}
 use Rattle.sbp_world.proofs.Agents.Enabling.{ask_logins}
 use Rattle.sbp_world.proofs.Agents.Heeding.{desk_same, register_off, same_registers}

@@ -1,25 +1,9 @@
 -- A packet is delivered to the target: behind the turn the agents of the terms are the target's.
-use Rattle.std.proofs.Common.{◌≡◌, refl, sym, subst, ℕ, ◌<◌, Bool, List, Option, Some}
-use Rattle.bus_transactions.specs.Judging.{AreJudged}
-use Rattle.label_table.specs.Layer.{Finding, Layer, judging_step}
-use Rattle.packet_store.specs.declared.sent.Sent.{Sent}
-use Rattle.packet_store.specs.Kept.{found_sent}
-use Rattle.rbc_disk.specs.Disk.{Disk}
-use Rattle.rbc_disk.specs.Held.{Held}
-use Rattle.rbc_disk.specs.Runs.{Told}
-use Rattle.sbp_bus.specs.Generations.{GenerationsState}
-use Rattle.sbp_journal.specs.Run.{Moment}
-use Rattle.sbp_journal.specs.declared.cause.Judged.{Judged}
-use Rattle.sbp_laws.specs.DiskFold.{unit_at}
-use Rattle.sbp_laws.specs.Targets.{over}
-use Rattle.sbp_target.specs.declared.purpose.Purpose.{Purpose}
-use Rattle.sbp_target.specs.Nodes.{Scene as TargetScene, scene}
-use Rattle.sbp_target.specs.Receiving.{TellsIn, received, with_layer}
-use Rattle.sbp_target.specs.Replies.{Whole, plain_in}
-use Rattle.sbp_world.specs.Delivering.{whole_of}
-use Rattle.sbp_world.specs.FitTarget.{BytesTold}
-use Rattle.sbp_world.specs.Handing.{handed_out}
-use Rattle.sbp_world.specs.Worlds.{WorldState, with_target}
+use Rattle.sbp_world.proofs.Words.Std.{◌≡◌, refl, sym, subst, ℕ, ◌<◌, Bool, List, Option, Some}
+use Rattle.sbp_world.proofs.Words.Wire.{AreJudged, Finding, Layer, judging_step, Sent, found_sent, GenerationsState, Moment, Judged}
+use Rattle.sbp_world.proofs.Words.Target.{Disk, Held, Told, Purpose, TargetScene, scene, TellsIn, received, with_layer, Whole, plain_in}
+use Rattle.sbp_world.proofs.Words.Laws.{unit_at, over}
+use Rattle.sbp_world.proofs.Words.World.{whole_of, BytesTold, handed_out, WorldState, with_target, AreOf, Request, with_requests, AllLeave, AreHeldAt, AreKnown}
 use Rattle.sbp_world.proofs.Wire.Holding.{Sound}
 use Rattle.sbp_world.proofs.Wire.Nodes.{marked_alike}
 use Rattle.sbp_world.proofs.Wire.Starts.{laws_of}
@@ -30,11 +14,7 @@ use Rattle.sbp_world.proofs.Agents.Management.Sides.{AllBehind}
 use Rattle.sbp_world.proofs.Agents.Management.Still.{hist}
 use Rattle.sbp_world.proofs.Agents.Management.Told.{term_in}
 use Rattle.sbp_world.specs.Agents.Management.Calls as management
-use Rattle.sbp_world.specs.Agents.Calls.{AreOf, delivered}
-use Rattle.sbp_world.specs.Agents.Crews.{Request, with_requests}
-use Rattle.sbp_world.specs.Agents.Hands.{AllLeave}
-use Rattle.sbp_world.specs.Agents.Holders.{AreHeldAt}
-use Rattle.sbp_world.specs.Agents.Serials.{AreKnown}
+use Rattle.sbp_world.specs.Agents.Calls.{delivered}
 use Rattle.sbp_world.proofs.Agents.CrewFirsts.{IsToldFor, Lands, T, agrees, before, crew_keeps, found_lands, noted, o}
 use Rattle.sbp_world.proofs.Agents.CrewTurns.{doing_behind, turned_crew}
 use Rattle.sbp_world.proofs.Agents.Leaving.{packets_leave}

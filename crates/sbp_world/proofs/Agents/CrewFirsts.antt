@@ -1,71 +1,24 @@
 -- What the first note of a delivery to the target makes of the agents of the terms is what the call makes of its agents.
-use Rattle.std.proofs.Common.{arith, ◌≡◌, ◌∙◌, refl, sym, ap, subst, ℕ, ◌<◌, is_some, Bool, true, false, cond, List, [], ◌∷◌, length, Option, Some, None, Result, Ok, Err}
-use Rattle.std.specs.Prelude.{unwrap_or}
-use Rattle.std.proofs.lemmas.Bool.Decides.{nat_tests}
-use Rattle.async_packet.specs.declared.fault.PacketFault.{PacketFault}
-use Rattle.async_packet.specs.Labels.{LabelParts}
-use Rattle.async_packet.specs.Packet.{Packet, header_in, lock, lock_response, read_block, read_block_response, read_quadlet, read_quadlet_response, write_block, write_quadlet, write_response}
-use Rattle.async_packet.specs.Reading.{reading}
-use Rattle.bus_transactions.specs.Judging.{AreJudged, facts_of, may_get}
-use Rattle.bus_transactions.specs.Rows.{awaits, kind_as, shape, shape_of}
-use Rattle.bus_transactions.specs.Wire.{as_sending, transaction}
+use Rattle.sbp_world.proofs.Words.Std.{arith, ◌≡◌, ◌∙◌, refl, sym, ap, subst, ℕ, ◌<◌, is_some, Bool, true, false, cond, List, [], ◌∷◌, length, Option, Some, None, Result, Ok, Err, unwrap_or, nat_tests}
+use Rattle.sbp_world.proofs.Words.Wire.{PacketFault, LabelParts, Packet, header_in, lock, lock_response, read_block, read_block_response, read_quadlet, read_quadlet_response, write_block, write_quadlet, write_response, reading, AreJudged, may_get, awaits, kind_as, shape, shape_of, as_sending, transaction, ReplyKind, under_way, row_of, Finding, Layer, judging_step, of_again, of_generation, of_grammar, of_label, of_request, of_response, state_for, reply_kind, Sent, found_sent, judged_note, holder_at, or_nobody, Access, Register, Start, access_of, agent_reset, agent_state, doorbell, management_agent, no_start, orb_pointer, register, rom_start, start_at, start_serves, unsolicited_enable, empty_outbox, Moment, said, Kind, Sending, between, is_same_kind, locking, part_of, request, Terms, gets, terms, waits, Cause, Judged, Side}
+use Rattle.sbp_world.proofs.Words.Target.{Which, Login, Table, place_at, Busy, Disk, Held, Told, PlainDisk, Purpose, sent_to, which_in, NodeState, TargetScene, desk_at, login_at, scene, answer_in, judged_scene, received_as, with_layer, Whole, plain_in, served_login, answered, is_barred, serve, Demand, demand_of, IsUnderWay, TransactionLaw}
+use Rattle.sbp_world.proofs.Words.Initiator.{Ask, Answer}
+use Rattle.sbp_world.proofs.Words.Laws.{unit_at, Agent, TermPurpose, Reply, Target, agent_at, for_agent, for_manager, for_nobody, got_by, initiator_at, initiator_with, managed_by, manager_step, node_in, over, points, purpose_of, register_got, replied_to, request_got, start_got, started_by, taken_on, target_at, unit_in, with_agent}
+use Rattle.sbp_world.proofs.Words.World.{marked, whole_of, holder, WorldState, with_note, with_target, Stands, Agrees, Office, office_of, office_replied, AgentsKeep, AreOf, changed, managed, Request, ToldAlike, agent_in, term_answered, run_told, run_untold, AreHeldAt, AreKnown, IsForAgent, IsHanded}
+use Rattle.bus_transactions.specs.Judging.{facts_of}
 use Rattle.bus_transactions.proofs.PacketParts.{PartOf, asks, part_case, part_read, replies}
-use Rattle.command_agent.specs.declared.step.Which.{Which}
 use Rattle.label_table.specs.declared.place.LabelState.TheVariants as states
-use Rattle.label_table.specs.declared.reply.ReplyKind.{ReplyKind}
-use Rattle.label_table.specs.History.{under_way}
-use Rattle.label_table.specs.Judging.{row_of}
-use Rattle.label_table.specs.Layer.{Finding, Layer, judging_step, of_again, of_generation, of_grammar, of_label, of_request, of_response}
-use Rattle.label_table.specs.Peers.{state_for}
-use Rattle.label_table.specs.Requests.{reply_kind}
-use Rattle.login_table.specs.declared.login.Login.{Login}
-use Rattle.login_table.specs.Table.{Table, place_at}
-use Rattle.mgmt_agent.specs.declared.operation.Busy.{Busy}
 use Rattle.mgmt_agent.specs.Machine as manager
-use Rattle.orb_layout.specs.declared.ask.Ask.{Ask}
-use Rattle.orb_layout.specs.Replies.{Answer}
-use Rattle.packet_store.specs.declared.sent.Sent.{Sent}
-use Rattle.packet_store.specs.Kept.{found_sent}
-use Rattle.rbc_disk.specs.Disk.{Disk}
-use Rattle.rbc_disk.specs.Held.{Held}
-use Rattle.rbc_disk.specs.Runs.{Told}
-use Rattle.rbc_disk.specs.Units.{PlainDisk}
-use Rattle.sbp_bus.specs.Packets.{judged_note}
-use Rattle.sbp_bus.specs.Places.{holder_at, or_nobody}
-use Rattle.sbp_journal.specs.Addresses.{Access, Register, Start, access_of, agent_reset, agent_state, doorbell, management_agent, no_start, orb_pointer, register, rom_start, start_at, start_serves, unsolicited_enable}
-use Rattle.sbp_journal.specs.Outgoings.{empty_outbox}
-use Rattle.sbp_journal.specs.Run.{Moment, said}
-use Rattle.sbp_journal.specs.Transactions.{Kind, Sending, between, is_same_kind, locking, part_of, request}
-use Rattle.sbp_journal.specs.Wire.{Terms, gets, terms, waits}
-use Rattle.sbp_journal.specs.declared.cause.Cause.{Cause}
 use Rattle.sbp_journal.specs.declared.cause.Cause.TheVariants as causes
-use Rattle.sbp_journal.specs.declared.cause.Judged.{Judged}
 use Rattle.sbp_journal.specs.declared.cause.Judged.TheVariants as judgements
-use Rattle.sbp_journal.specs.declared.side.Side.{Side}
-use Rattle.sbp_laws.specs.DiskFold.{unit_at}
 use Rattle.sbp_laws.specs.Packets as laws
-use Rattle.sbp_laws.specs.Targets.{Agent, Purpose as TermPurpose, Reply, Target, agent_at, for_agent, for_manager, for_nobody, got_by, initiator_at, initiator_with, managed_by, manager_step, node_in, over, points, purpose_of, register_got, replied_to, request_got, start_got, started_by, taken_on, target_at, unit_in, with_agent}
 use Rattle.sbp_laws.proofs.Going.{initiators_same}
-use Rattle.sbp_target.specs.declared.purpose.Purpose.{Purpose}
 use Rattle.sbp_target.specs.declared.purpose.Purpose.TheVariants as purposes
-use Rattle.sbp_target.specs.Agents.{sent_to}
-use Rattle.sbp_target.specs.Desks.{which_in}
-use Rattle.sbp_target.specs.Nodes.{NodeState, Scene as TargetScene, desk_at, login_at, scene}
-use Rattle.sbp_target.specs.Receiving.{answer_in, judged_scene, received_as, with_layer}
-use Rattle.sbp_target.specs.Replies.{Whole, plain_in, served_login}
-use Rattle.sbp_target.specs.Serving.{answered, is_barred, request_step, serve}
-use Rattle.sbp_world.specs.Delivering.{marked, whole_of}
-use Rattle.sbp_world.specs.Telling.{holder}
-use Rattle.sbp_world.specs.Worlds.{WorldState, with_note, with_target}
-use Rattle.sbp_world.specs.Wire.Wires.{Stands}
-use Rattle.target_base.specs.declared.address.Demand.{Demand}
-use Rattle.target_base.specs.Addresses.{demand_of}
-use Rattle.sbp_target.specs.Histories.Transactions.{IsUnderWay, TransactionLaw}
+use Rattle.sbp_target.specs.Serving.{request_step}
 use Rattle.sbp_target.proofs.Histories.Calling.{Good}
 use Rattle.sbp_target.proofs.Histories.Found.{IsFound}
 use Rattle.sbp_target.proofs.Histories.Primitives.{Closing, closing_known}
 use Rattle.sbp_world.specs.Agents.Management.Calls as management
-use Rattle.sbp_world.specs.Agents.Management.Offices.{Agrees, Office, office_of, replied as office_replied}
 use Rattle.sbp_world.proofs.Agents.Management.Awaiting.{under_for}
 use Rattle.sbp_world.proofs.Agents.Management.Calls.{barred_same}
 use Rattle.sbp_world.proofs.Agents.Management.Delivering.{answer_is}
@@ -77,11 +30,7 @@ use Rattle.sbp_world.proofs.Agents.Management.Idle.{managed_idle, managed_office
 use Rattle.sbp_world.proofs.Agents.Management.Offices.{over_keeps}
 use Rattle.sbp_world.proofs.Agents.Management.Still.{gets_clock, hist}
 use Rattle.sbp_world.proofs.Agents.Management.Told.{term_in}
-use Rattle.sbp_world.specs.Agents.Calls.{AgentsKeep, AreOf, changed, delivered, demanded, managed, replied, requested}
-use Rattle.sbp_world.specs.Agents.Crews.{Request, ToldAlike, agent_in, answered as term_answered}
-use Rattle.sbp_world.specs.Agents.Hands.{run_told, run_untold}
-use Rattle.sbp_world.specs.Agents.Holders.{AreHeldAt}
-use Rattle.sbp_world.specs.Agents.Serials.{AreKnown, IsForAgent, IsHanded}
+use Rattle.sbp_world.specs.Agents.Calls.{delivered, demanded, replied, requested}
 use Rattle.sbp_world.proofs.Agents.CrewLocks.{is_lock, lockless, none_locks}
 use Rattle.sbp_world.proofs.Agents.CrewSeats.{IsServing, serves_it, state_of}
 use Rattle.sbp_world.proofs.Agents.CrewTurns.{Begins, quiet_begins}

@@ -1,52 +1,22 @@
 -- A transaction of the target times out: behind the turn the agents of the terms are the target's.
-use Rattle.std.proofs.Common.{arith, ◌≡◌, ◌∙◌, refl, sym, ap, subst, ℕ, ◌<◌, is_some, Bool, true, false, List, [], Option, Some, None, Result, Ok}
-use Rattle.std.specs.Prelude.{slice_set}
-use Rattle.bus_transactions.specs.Bare.{bare, bare_after, bare_purpose, bare_result}
-use Rattle.bus_transactions.specs.Rows.{shape}
-use Rattle.bus_transactions.specs.Wire.{Node, transaction}
+use Rattle.sbp_world.proofs.Words.Std.{arith, ◌≡◌, ◌∙◌, refl, sym, ap, subst, ℕ, ◌<◌, is_some, Bool, true, false, List, [], Option, Some, None, Result, Ok, slice_set}
+use Rattle.sbp_world.proofs.Words.Wire.{bare, bare_after, bare_purpose, bare_result, shape, Node, transaction, Stale, under_way, Layer, expiring_step, state_for, find, BusRequest, Moment, Sending, Transaction, Terms, terms, waits, Side}
+use Rattle.sbp_world.proofs.Words.Target.{AgentStep, Which, Machine, Login, Disk, Told, PlainDisk, Purpose, sent_to, alone, lets_expire, which_in, NodeState, TargetScene, desk_at, login_at, plain_in, IsUnderWay, TransactionLaw}
+use Rattle.sbp_world.proofs.Words.Initiator.{Expired}
+use Rattle.sbp_world.proofs.Words.Laws.{Agent, TermPurpose, Target, closed, for_agent, for_manager, for_nobody, managed_by, manager_step, moved, over, plain_for, purpose_of, replied_to}
+use Rattle.sbp_world.proofs.Words.World.{handed_out, WorldState, with_note, with_target, IsLatest, Stands, Office, office_replied, AreOf, Follow, changed, managed, Request, agent_in, term_answered, with_requests, resumed, run_told, run_untold, AreKnown, IsForAgent, IsHanded}
 use Rattle.bus_transactions.proofs.Bares.{takes_steps}
 use Rattle.bus_transactions.proofs.Reaches.{goes_on}
-use Rattle.command_agent.specs.declared.step.AgentStep.{AgentStep}
-use Rattle.command_agent.specs.declared.step.Which.{Which}
-use Rattle.command_agent.specs.Machine.{Machine}
 use Rattle.command_agent.proofs.Losing.{reply_lost}
 use Rattle.label_table.specs.declared.place.LabelState.TheVariants as states
-use Rattle.label_table.specs.declared.reply.Stale.{Stale}
-use Rattle.label_table.specs.History.{under_way}
-use Rattle.label_table.specs.Layer.{Layer, expiring_step}
-use Rattle.label_table.specs.Peers.{state_for}
-use Rattle.login_table.specs.declared.login.Login.{Login}
 use Rattle.orb_layout.specs.declared.ask.FailCause.TheVariants as causes
-use Rattle.orb_layout.specs.Replies.{Expired}
-use Rattle.rbc_disk.specs.Disk.{Disk}
-use Rattle.rbc_disk.specs.Runs.{Told}
-use Rattle.rbc_disk.specs.Units.{PlainDisk}
-use Rattle.sbp_bus.specs.Requests.{find}
-use Rattle.sbp_bus.specs.declared.requests.Request.{Request as BusRequest}
-use Rattle.sbp_journal.specs.Run.{Moment}
-use Rattle.sbp_journal.specs.Transactions.{Sending, Transaction}
-use Rattle.sbp_journal.specs.Wire.{Terms, terms, waits}
 use Rattle.sbp_journal.specs.declared.note.Note.TheVariants as notes
-use Rattle.sbp_journal.specs.declared.side.Side.{Side}
-use Rattle.sbp_laws.specs.Targets.{Agent, Purpose as TermPurpose, Target, closed, for_agent, for_manager, for_nobody, managed_by, manager_step, moved, over, plain_for, purpose_of, replied_to}
-use Rattle.sbp_target.specs.declared.purpose.Purpose.{Purpose}
 use Rattle.sbp_target.specs.declared.purpose.Purpose.TheVariants as purposes
-use Rattle.sbp_target.specs.Agents.{sent_to}
-use Rattle.sbp_target.specs.Calls.{alone, lets_expire}
-use Rattle.sbp_target.specs.Desks.{which_in}
-use Rattle.sbp_target.specs.Nodes.{NodeState, Scene as TargetScene, desk_at, login_at}
-use Rattle.sbp_target.specs.Replies.{plain_in}
-use Rattle.sbp_world.specs.Handing.{handed_out}
-use Rattle.sbp_world.specs.Worlds.{WorldState, with_note, with_target}
-use Rattle.sbp_world.specs.Wire.Knows.{IsLatest}
-use Rattle.sbp_world.specs.Wire.Wires.{Stands}
 use Rattle.sbp_world.proofs.Wire.Bus.{holds}
 use Rattle.sbp_world.proofs.Wire.Handles.{expired_generation}
-use Rattle.sbp_target.specs.Histories.Transactions.{IsUnderWay, TransactionLaw}
 use Rattle.sbp_target.proofs.Histories.Calling.{Good}
 use Rattle.sbp_target.proofs.Histories.Primitives.{Expiring, expiring_known}
 use Rattle.sbp_world.specs.Agents.Management.Calls as management
-use Rattle.sbp_world.specs.Agents.Management.Offices.{Office, replied as office_replied}
 use Rattle.sbp_world.proofs.Agents.Management.Awaiting.{under_for}
 use Rattle.sbp_world.proofs.Agents.Management.Calls.{lapse_does}
 use Rattle.sbp_world.proofs.Agents.Management.Firsts.{lapsed_here}
@@ -56,10 +26,7 @@ use Rattle.sbp_world.proofs.Agents.Management.Lapse.{asked_as, entry, from_asked
 use Rattle.sbp_world.proofs.Agents.Management.Sides.{AllBehind}
 use Rattle.sbp_world.proofs.Agents.Management.Still.{hist}
 use Rattle.sbp_world.proofs.Agents.Management.Told.{term_in}
-use Rattle.sbp_world.specs.Agents.Calls.{AreOf, Follow, changed, lapsed, managed, replied}
-use Rattle.sbp_world.specs.Agents.Crews.{Request, agent_in, answered as term_answered, with_requests}
-use Rattle.sbp_world.specs.Agents.Hands.{resumed, run_told, run_untold}
-use Rattle.sbp_world.specs.Agents.Serials.{AreKnown, IsForAgent, IsHanded}
+use Rattle.sbp_world.specs.Agents.Calls.{lapsed, replied}
 use Rattle.sbp_world.proofs.Agents.CrewFirsts.{T, agrees, before, crew_keeps, none_waits, o}
 use Rattle.sbp_world.proofs.Agents.CrewSeats.{IsServing, serves_it, state_of}
 use Rattle.sbp_world.proofs.Agents.CrewTurns.{Begins, doing_behind, quiet_begins, turned_crew}

@@ -1,38 +1,14 @@
 -- After each line of a world, and behind each delivery of one, the agents of the terms are the target's.
-use Rattle.std.proofs.Common.{arith, ◌≡◌, ◌∙◌, refl, sym, ap, subst, ℕ, zero, suc, ◌+◌, ◌^◌, ◌<◌, ◌≤◌, ◌||◌, not, nat_eq, nat_lt, Bool, true, false, cond, List, [], ◌∷◌, length, Option, Some, None}
-use Rattle.std.specs.Prelude.{slice_index_or, slice_set}
-use Rattle.label_table.specs.Layer.{judging_step}
-use Rattle.packet_store.specs.declared.sent.Sent.{Sent}
-use Rattle.packet_store.specs.Kept.{found_sent, is_flying}
-use Rattle.packet_store.specs.Stored.{deliver_step}
-use Rattle.rbc_disk.specs.Disk.{Disk}
-use Rattle.rbc_disk.specs.Runs.{Told}
-use Rattle.sbp_bus.specs.Packets.{end_note, judged_note, no_packet}
-use Rattle.sbp_initiator.specs.Initiators.{new_state}
-use Rattle.sbp_initiator.specs.Receiving.{receive_step}
-use Rattle.sbp_initiator.specs.declared.state.InitiatorState.{InitiatorState}
-use Rattle.sbp_journal.specs.Outgoings.{OutboxState, empty_outbox}
-use Rattle.sbp_journal.specs.Run.{Moment, asked, said}
-use Rattle.sbp_journal.specs.Wire.{terms}
-use Rattle.sbp_journal.specs.declared.cause.Judged.{Judged}
+use Rattle.sbp_world.proofs.Words.Std.{arith, ◌≡◌, ◌∙◌, refl, sym, ap, subst, ℕ, zero, suc, ◌+◌, ◌^◌, ◌<◌, ◌≤◌, ◌||◌, not, nat_eq, nat_lt, Bool, true, false, cond, List, [], ◌∷◌, length, Option, Some, None, slice_index_or, slice_set}
+use Rattle.sbp_world.proofs.Words.Wire.{judging_step, Sent, found_sent, is_flying, deliver_step, end_note, judged_note, no_packet, OutboxState, empty_outbox, Moment, asked, said, terms, Judged, Event}
+use Rattle.sbp_world.proofs.Words.Target.{Disk, Told, TellsIn, received, with_layer, Whole}
+use Rattle.sbp_world.proofs.Words.Initiator.{new_state, receive_step, InitiatorState}
+use Rattle.sbp_world.proofs.Words.Laws.{receiver_in, Target, is_serial, over, target_at}
+use Rattle.sbp_world.proofs.Words.World.{Arrival, MayAt, MayReceive, MayTell, MayTold, arrived, at_target, delivered, delivered_by, faults_after, initiator_received, initiators_received, marked, received_by, received_step, target_received, whole_of, with_initiators, BytesTold, handed_out, MayHappen, happens, MayIf, delivered_if, is_in_flight, may_repeat, MayAll, MayNext, after_all, delivered_at, delivered_next, is_settled, lowest, Scene, WorldState, begun, with_note, with_target, without_notes, IsLine, AreOf, with_requests}
 use Rattle.sbp_journal.specs.declared.cause.Judged.TheVariants as judgements
-use Rattle.sbp_journal.specs.declared.event.Event.{Event}
 use Rattle.sbp_journal.specs.declared.event.Event.TheVariants as events
 use Rattle.sbp_journal.specs.declared.note.Note.TheVariants as notes
-use Rattle.sbp_laws.specs.Packets.{receiver_in}
-use Rattle.sbp_laws.specs.Targets.{Target, is_serial, over, target_at}
-use Rattle.sbp_target.specs.Receiving.{TellsIn, received, with_layer}
-use Rattle.sbp_target.specs.Replies.{Whole}
-use Rattle.sbp_world.specs.declared.parts.delivering.Arrival.{Arrival}
-use Rattle.sbp_world.specs.Delivering.{MayAt, MayReceive, MayTell, MayTold, arrived, at_target, delivered, delivered_by, faults_after, initiator_received, initiators_received, marked, received_by, received_step, target_received, whole_of, with_initiators}
-use Rattle.sbp_world.specs.FitTarget.{BytesTold}
-use Rattle.sbp_world.specs.Handing.{handed_out}
-use Rattle.sbp_world.specs.Lines.{MayHappen, happens}
-use Rattle.sbp_world.specs.Packets.{MayIf, delivered_if, is_in_flight, may_repeat}
-use Rattle.sbp_world.specs.Settling.{MayAll, MayNext, after_all, delivered_at, delivered_next, is_settled, lowest}
 use Rattle.sbp_world.specs.Settling as settling
-use Rattle.sbp_world.specs.Worlds.{Scene, WorldState, begun, with_note, with_target, without_notes}
-use Rattle.sbp_world.specs.Wire.Lines.{IsLine}
 use Rattle.sbp_world.proofs.Wire.Comes.{own_inside, own_outside, received_is, to_own, to_zero, to_suc as not_zero}
 use Rattle.sbp_world.proofs.Wire.Holding.{Sound}
 use Rattle.sbp_world.proofs.Wire.Nodes.{handed_alike, marked_alike}
@@ -43,8 +19,6 @@ use Rattle.sbp_world.proofs.InitiatorForms as own
 use Rattle.sbp_world.proofs.Agents.Management.Lines.{all_heard, line_holds, opens}
 use Rattle.sbp_world.proofs.Agents.Management.Still.{hist}
 use Rattle.sbp_world.proofs.Agents.Management.Told.{term_in}
-use Rattle.sbp_world.specs.Agents.Calls.{AreOf}
-use Rattle.sbp_world.specs.Agents.Crews.{with_requests}
 use Rattle.sbp_world.proofs.Agents.Asides.{asides_law}
 use Rattle.sbp_world.proofs.Agents.CrewDelivery.{delivered_crew}
 use Rattle.sbp_world.proofs.Agents.CrewOthers.{got_out, settled_ends, stopped_ends}

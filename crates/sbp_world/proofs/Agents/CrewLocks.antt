@@ -1,25 +1,9 @@
 -- No transaction of a target is a lock: so a response says to the laws what it says to the target.
-use Rattle.std.proofs.Common.{◌≡◌, ◌∙◌, refl, sym, ap, ℕ, ◌+◌, ◌*◌, ◌/◌, ◌%◌, ◌^◌, ◌<◌, nat_lt, Bool, true, false, cond, List, [], ◌∷◌, ◌++◌, Option, Some, None, Result, Ok, Err, arith}
-use Rattle.async_packet.specs.declared.fault.PacketFault.{PacketFault}
-use Rattle.async_packet.specs.Canon.{canon, four, three}
-use Rattle.async_packet.specs.Fields.{tcode_of}
-use Rattle.async_packet.specs.Labels.{LabelParts}
-use Rattle.async_packet.specs.Packet.{Packet}
-use Rattle.async_packet.specs.Reading.{reading}
-use Rattle.byteorder.specs.Endian.{big_bytes, big_number}
-use Rattle.byteorder.specs.Numbers.{big_from-bytes}
-use Rattle.bus_transactions.specs.Rows.{kind_as}
-use Rattle.label_table.specs.declared.judgement.Asked.{Asked}
-use Rattle.label_table.specs.declared.reply.ReplyKind.{ReplyKind}
+use Rattle.sbp_world.proofs.Words.Std.{◌≡◌, ◌∙◌, refl, sym, ap, ℕ, ◌+◌, ◌*◌, ◌/◌, ◌%◌, ◌^◌, ◌<◌, nat_lt, Bool, true, false, cond, List, [], ◌∷◌, ◌++◌, Option, Some, None, Result, Ok, Err, arith, big_bytes, big_number, big_from-bytes}
+use Rattle.sbp_world.proofs.Words.Wire.{PacketFault, canon, four, three, tcode_of, LabelParts, Packet, reading, kind_as, Asked, ReplyKind, Stale, Body, block_read, block_write, header_to, quadlet_read, quadlet_write, request_with, Life, not_begun, over, under_way, Finding, Layer, asking_step, expiring_step, judging_step, of_again, of_generation, of_grammar, of_label, of_request, of_response, unlabelled, kind_by_tcode, kind_of, reply_kind, Kind, is_same_kind, locking, reading_block, reading_quadlet, writing}
+use Rattle.sbp_world.proofs.Words.Target.{Purpose}
 use Rattle.label_table.specs.declared.reply.ReplyKind.TheVariants as kinds
-use Rattle.label_table.specs.declared.reply.Stale.{Stale}
-use Rattle.label_table.specs.Bodies.{Body, block_read, block_write, header_to, quadlet_read, quadlet_write, request_with}
 use Rattle.label_table.specs.History as wire
-use Rattle.label_table.specs.History.{Life, not_begun, over, under_way}
-use Rattle.label_table.specs.Layer.{Finding, Layer, asking_step, expiring_step, judging_step, of_again, of_generation, of_grammar, of_label, of_request, of_response, unlabelled}
-use Rattle.label_table.specs.Requests.{kind_by_tcode, kind_of, reply_kind}
-use Rattle.sbp_journal.specs.Transactions.{Kind, is_same_kind, locking, reading_block, reading_quadlet, writing}
-use Rattle.sbp_target.specs.declared.purpose.Purpose.{Purpose}
 use Rattle.sbp_target.proofs.Histories.Primitives.{Known}
 use Rattle.sbp_target.proofs.Histories.Seats.{Lives}
 

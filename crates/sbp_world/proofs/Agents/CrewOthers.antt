@@ -1,25 +1,13 @@
 -- What others do leaves the terms of the target as they are, once a turn of it is over; and so does the note at the end of a line.
-use Rattle.std.proofs.Common.{arith, ◌≡◌, ◌∙◌, refl, ap, ℕ, suc, ◌+◌, not, nat_eq, false, cond, List, [], ◌∷◌, Option, Some, None}
-use Rattle.async_packet.specs.Labels.{LabelParts}
-use Rattle.orb_layout.specs.Replies.{Expired}
-use Rattle.rbc_disk.specs.Disk.{Disk}
-use Rattle.sbp_bus.specs.Generations.{node_of}
-use Rattle.sbp_journal.specs.Run.{Moment, said}
-use Rattle.sbp_journal.specs.Transactions.{part_of}
-use Rattle.sbp_journal.specs.Wire.{Terms, terms}
-use Rattle.sbp_journal.specs.declared.note.Note.{Note}
+use Rattle.sbp_world.proofs.Words.Std.{arith, ◌≡◌, ◌∙◌, refl, ap, ℕ, suc, ◌+◌, not, nat_eq, false, cond, List, [], ◌∷◌, Option, Some, None}
+use Rattle.sbp_world.proofs.Words.Wire.{LabelParts, node_of, Moment, said, part_of, Terms, terms, Note, Outgoing, Side, OutboxState}
+use Rattle.sbp_world.proofs.Words.Target.{Disk}
+use Rattle.sbp_world.proofs.Words.Initiator.{Expired}
+use Rattle.sbp_world.proofs.Words.Laws.{access_in_bytes, answered_at, receiver_in, sender_in, Reply, Target, going_on, got_by, is_serial, is_write_access, known_at, over, replied, reset_seen, sent_as, taken_on, target_at, target_by}
+use Rattle.sbp_world.proofs.Words.World.{handed_out, asked, posted, sent, sent_all, sent_to, told, told_all, WorldState}
 use Rattle.sbp_journal.specs.declared.note.Note.TheVariants as notes
-use Rattle.sbp_journal.specs.declared.outbox.Outgoing.{Outgoing}
-use Rattle.sbp_journal.specs.declared.side.Side.{Side}
 use Rattle.sbp_journal.specs.declared.side.Side.TheVariants as sides
-use Rattle.sbp_journal.specs.Outgoings.{OutboxState}
-use Rattle.sbp_laws.specs.Packets.{access_in_bytes, answered_at, receiver_in, sender_in}
-use Rattle.sbp_laws.specs.Targets.{Reply, Target, going_on, got_by, is_serial, is_write_access, known_at, over, replied, reset_seen, sent_as, taken_on, target_at, target_by}
 use Rattle.sbp_laws.proofs.Going.{going_still, quiet_on}
-use Rattle.sbp_world.specs.Handing.{handed_out}
-use Rattle.sbp_world.specs.Sending.{asked, posted, sent, sent_all, sent_to}
-use Rattle.sbp_world.specs.Telling.{told, told_all}
-use Rattle.sbp_world.specs.Worlds.{WorldState}
 use Rattle.sbp_world.proofs.Agents.Management.Firsts.{wire_is}
 use Rattle.sbp_world.proofs.Formed.{AreOwn, IsNoRun}
 use Rattle.sbp_world.proofs.Agents.Management.Told.{term_in}

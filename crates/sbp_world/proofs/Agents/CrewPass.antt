@@ -1,41 +1,14 @@
 -- Each turn of a world but a delivery leaves the agents of the terms the target's.
-use Rattle.std.proofs.Common.{arith, ◌≡◌, ◌∙◌, refl, sym, ap, subst, ℕ, zero, suc, ◌+◌, ◌-◌, ◌<◌, nat_eq, nat_lt, Bool, true, false, cond, List, [], ◌∷◌, length, Option, Some, None, Result, Ok, Err}
-use Rattle.std.specs.Prelude.{if◌then◌else◌}
-use Rattle.label_table.specs.declared.reply.Stale.{Stale}
-use Rattle.label_table.specs.Layer.{Layer, expiring_step}
-use Rattle.rbc_disk.specs.Disk.{Disk}
-use Rattle.rbc_disk.specs.Runs.{Told}
-use Rattle.sbp_bus.specs.Generations.{id_of}
-use Rattle.sbp_bus.specs.Packets.{no_node, no_packet}
-use Rattle.sbp_bus.specs.Requests.{find}
-use Rattle.sbp_bus.specs.declared.requests.Request.{Request as BusRequest}
-use Rattle.sbp_initiator.specs.Acting.{act_step}
-use Rattle.sbp_initiator.specs.Effects.{Turn}
-use Rattle.sbp_initiator.specs.Receiving.{expire_step}
-use Rattle.sbp_initiator.specs.Seeing.{see_step}
-use Rattle.sbp_journal.specs.Outgoings.{OutboxState, empty_outbox}
-use Rattle.sbp_journal.specs.Run.{Moment}
-use Rattle.sbp_journal.specs.Transactions.{Sending}
-use Rattle.sbp_journal.specs.Wire.{terms}
-use Rattle.sbp_journal.specs.declared.event.Action.{Action}
+use Rattle.sbp_world.proofs.Words.Std.{arith, ◌≡◌, ◌∙◌, refl, sym, ap, subst, ℕ, zero, suc, ◌+◌, ◌-◌, ◌<◌, nat_eq, nat_lt, Bool, true, false, cond, List, [], ◌∷◌, length, Option, Some, None, Result, Ok, Err, if◌then◌else◌}
+use Rattle.sbp_world.proofs.Words.Wire.{Stale, Layer, expiring_step, id_of, no_node, no_packet, find, BusRequest, OutboxState, empty_outbox, Moment, Sending, terms, Action}
+use Rattle.sbp_world.proofs.Words.Target.{Disk, Told, Purpose, alone, lets_expire, sees, ticks, TargetScene, scene, expired, expired_in, with_key}
+use Rattle.sbp_world.proofs.Words.Initiator.{act_step, Turn, expire_step, see_step}
+use Rattle.sbp_world.proofs.Words.Laws.{sender_in, Target, is_serial, key_by, known_at, over, event_of}
+use Rattle.sbp_world.proofs.Words.World.{handed_out, acted, acted_by, keyed, no_unit, weight_in, handed_all, initiator_learns, reset_line, see_line, target_learns, target_sees, target_ticks, tick_line, told_seen, with_seen, at_initiator, expires, initiator_expires, inject_line, injected, injected_to, is_in_flight, lose_line, lost, refused, target_expired, target_left, timed_out, timeout_line, timeout_of, posted, after_all, Scene, WorldState, initiator_at, with_initiator, with_note, with_target, MayGoOn, AreOf, Request, with_requests, AreHeldAt, AreUnitsAt}
 use Rattle.sbp_journal.specs.declared.note.Note.TheVariants as notes
-use Rattle.sbp_laws.specs.Packets.{sender_in}
-use Rattle.sbp_laws.specs.Targets.{Target, is_serial, key_by, known_at, over}
-use Rattle.sbp_laws.specs.Turns.{event_of}
 use Rattle.sbp_laws.proofs.Going.{going_still}
-use Rattle.sbp_target.specs.declared.purpose.Purpose.{Purpose}
-use Rattle.sbp_target.specs.Calls.{alone, lets_expire, sees, ticks}
-use Rattle.sbp_target.specs.Nodes.{Scene as TargetScene, scene}
-use Rattle.sbp_target.specs.Receiving.{expired, expired_in, with_key}
-use Rattle.sbp_world.specs.Handing.{handed_out}
-use Rattle.sbp_world.specs.Lines.{acted, acted_by, keyed, no_unit, weight_in}
 use Rattle.sbp_world.specs.Nodes as nodes
-use Rattle.sbp_world.specs.Nodes.{handed_all, initiator_learns, reset_line, see_line, target_learns, target_sees, target_ticks, tick_line, told_seen, with_seen}
 use Rattle.sbp_world.specs.Packets as packets
-use Rattle.sbp_world.specs.Packets.{at_initiator, expires, initiator_expires, inject_line, injected, injected_to, is_in_flight, lose_line, lost, refused, target_expired, target_left, timed_out, timeout_line, timeout_of}
-use Rattle.sbp_world.specs.Sending.{posted}
-use Rattle.sbp_world.specs.Settling.{after_all}
-use Rattle.sbp_world.specs.Worlds.{Scene, WorldState, initiator_at, with_initiator, with_note, with_target}
 use Rattle.sbp_world.proofs.Wire.Holding.{Sound}
 use Rattle.sbp_world.proofs.Wire.Nodes.{handed_alike}
 use Rattle.sbp_world.proofs.Agents.Management.Holding.{Holding}
@@ -45,11 +18,6 @@ use Rattle.sbp_world.proofs.Agents.Management.Lapse.{from_asked}
 use Rattle.sbp_world.proofs.Formed.{AreOwn}
 use Rattle.sbp_world.proofs.Agents.Management.Still.{hist}
 use Rattle.sbp_world.proofs.Agents.Management.Told.{term_in}
-use Rattle.sbp_world.specs.Agents.Asides.{MayGoOn}
-use Rattle.sbp_world.specs.Agents.Calls.{AreOf}
-use Rattle.sbp_world.specs.Agents.Crews.{Request, with_requests}
-use Rattle.sbp_world.specs.Agents.Holders.{AreHeldAt}
-use Rattle.sbp_world.specs.Agents.Units.{AreUnitsAt}
 use Rattle.sbp_world.proofs.Agents.Asides.{asides_law}
 use Rattle.sbp_world.proofs.Agents.CrewLapse.{lapsed_crew}
 use Rattle.sbp_world.proofs.Agents.CrewOthers as others

@@ -1,36 +1,22 @@
 -- In every run the agents of the terms are the target's.
-use Rattle.std.proofs.Common.{arith, ◌≡◌, ◌∙◌, sym, ap, subst, refl, ℕ, suc, ◌+◌, ◌^◌, ◌<◌, ◌≤◌, Bool, List, [], ◌∷◌, ◌++◌, map, length, Option, true, false}
-use Rattle.login_table.specs.declared.login.Login.{Login}
-use Rattle.rbc_disk.specs.Disk.{Disk}
-use Rattle.rbc_disk.specs.Runs.{Told}
-use Rattle.sbp_bus.specs.declared.places.Holder.{Holder}
-use Rattle.sbp_journal.specs.Run.{Moment, asked, said}
-use Rattle.sbp_journal.specs.Wire.{Terms, terms}
-use Rattle.sbp_journal.specs.declared.event.Event.{Event}
+use Rattle.sbp_world.proofs.Words.Std.{arith, ◌≡◌, ◌∙◌, sym, ap, subst, refl, ℕ, suc, ◌+◌, ◌^◌, ◌<◌, ◌≤◌, Bool, List, [], ◌∷◌, ◌++◌, map, length, Option, true, false}
+use Rattle.sbp_world.proofs.Words.Wire.{Holder, Moment, asked, said, Terms, terms, Event}
+use Rattle.sbp_world.proofs.Words.Target.{Login, Disk, Told}
+use Rattle.sbp_world.proofs.Words.Laws.{Target, target_at}
+use Rattle.sbp_world.proofs.Words.World.{history_of, moments_behind, MayHappen, happens, new_world, ready_logins, AreEntries, Entry, Run, after, beginning, MayAll, after_all, Scene, WorldState, begun, AreLines, DeliversMore, AgentsBetweenLaw, AgentsRunLaw, AreAgentsAt, ArePurposedAt, SerialsBetweenLaw, SerialsLaw, IsHeld, AreHandedAt}
 use Rattle.sbp_journal.specs.declared.event.Event.TheVariants as events
-use Rattle.sbp_laws.specs.Targets.{Target, target_at}
-use Rattle.sbp_world.specs.Histories.{history_of, moments_behind}
-use Rattle.sbp_world.specs.Lines.{MayHappen, happens}
-use Rattle.sbp_world.specs.Making.{new_world, ready_logins}
-use Rattle.sbp_world.specs.Runs.{AreEntries, Entry, Run, after, beginning}
-use Rattle.sbp_world.specs.Settling.{MayAll, after_all}
-use Rattle.sbp_world.specs.Worlds.{Scene, WorldState, begun}
-use Rattle.sbp_world.specs.Wire.Lines.{AreLines}
 use Rattle.sbp_world.proofs.Wire.ToldBytes.{happened_fits}
-use Rattle.sbp_world.specs.Agents.Management.Terms.{DeliversMore}
 use Rattle.sbp_world.proofs.Agents.Management.Begins.{first_holds, first_past}
 use Rattle.sbp_world.proofs.Agents.Management.Holding.{Holding}
 use Rattle.sbp_world.proofs.Agents.Management.Lines.{line_holds, opens}
 use Rattle.sbp_world.proofs.Agents.Management.Runs.{no_repeats, not_reset}
 use Rattle.sbp_world.proofs.Agents.Management.Still.{hist}
-use Rattle.sbp_world.specs.Agents.Agents.{AgentsBetweenLaw, AgentsRunLaw, AreAgentsAt, ArePurposedAt, SerialsBetweenLaw, SerialsLaw}
-use Rattle.sbp_world.specs.Agents.Holders.{IsHeld, IsOf}
+use Rattle.sbp_world.specs.Agents.Holders.{IsOf}
 use Rattle.sbp_world.proofs.Agents.CrewLines.{LineSites, all_crew, line_crew, opened}
 use Rattle.sbp_world.proofs.Agents.CrewPass.{AllSites, Crewed, IsSite}
 use Rattle.sbp_world.proofs.Agents.Holders.{holders_between_law}
 use Rattle.sbp_world.proofs.Agents.Known.{sent_first}
 use Rattle.sbp_world.proofs.Agents.Notes.{notes_law}
-use Rattle.sbp_world.specs.Agents.Serials.{AreHandedAt}
 use Rattle.sbp_world.proofs.Agents.Runs.{handed_between_law, handed_law}
 use Rattle.sbp_world.proofs.Agents.Units.{units_between_law}
 use Rattle.sbp_world.proofs.Lists.JoinLaws.{moments_same, lines_same}

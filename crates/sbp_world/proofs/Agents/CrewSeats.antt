@@ -1,36 +1,17 @@
 -- The transaction of an agent that is answered or times out: which of its desk's it is, for the target and for the terms, and the login that it serves.
-use Rattle.std.proofs.Common.{arith, ◌≡◌, ◌∙◌, refl, sym, ap, ℕ, ◌<◌, nat_lt, Bool, true, false, cond, List, length, Option, Some, None}
-use Rattle.std.proofs.lemmas.Bool.Decides.{nat_tests}
+use Rattle.sbp_world.proofs.Words.Std.{arith, ◌≡◌, ◌∙◌, refl, sym, ap, ℕ, ◌<◌, nat_lt, Bool, true, false, cond, List, length, Option, Some, None, nat_tests}
+use Rattle.sbp_world.proofs.Words.Wire.{ReplyKind, Layer, state_for, LabelParts, under_way, Moment}
+use Rattle.sbp_world.proofs.Words.Target.{Login, is_live, Disk, Which, Ahead, Main, Purpose, Sent, which_in, NodeState, desk_at, login_at, served_login, is_sent_as, if_served, IsThat}
+use Rattle.sbp_world.proofs.Words.World.{WorldState, kept_as}
 use Rattle.label_table.specs.declared.place.LabelState.TheVariants as states
-use Rattle.label_table.specs.declared.reply.ReplyKind.{ReplyKind}
-use Rattle.label_table.specs.Layer.{Layer}
-use Rattle.label_table.specs.Peers.{state_for}
 use Rattle.label_table.proofs.Calls.{after_kept}
-use Rattle.async_packet.specs.Labels.{LabelParts}
-use Rattle.label_table.specs.History.{under_way}
-use Rattle.login_table.specs.declared.login.Login.{Login}
-use Rattle.login_table.specs.Table.{is_live}
-use Rattle.rbc_disk.specs.Disk.{Disk}
-use Rattle.command_agent.specs.declared.step.Which.{Which}
-use Rattle.command_agent.specs.declared.step.Which.TheVariants.{Ahead, Main}
-use Rattle.sbp_journal.specs.Run.{Moment}
-use Rattle.sbp_target.specs.declared.purpose.Purpose.{Purpose}
 use Rattle.sbp_target.specs.declared.purpose.Purpose.TheVariants as purposes
-use Rattle.sbp_target.specs.declared.purpose.Sent.{Sent}
-use Rattle.sbp_target.specs.Desks.{which_in}
-use Rattle.sbp_target.specs.Nodes.{NodeState, desk_at, login_at}
-use Rattle.sbp_target.specs.Replies.{served_login}
-use Rattle.sbp_target.specs.Sending.{is_sent_as}
-use Rattle.sbp_world.specs.Worlds.{WorldState}
-use Rattle.target_base.specs.Logins.{if_served}
-use Rattle.sbp_target.specs.Histories.Transactions.{IsThat}
 use Rattle.sbp_target.proofs.Histories.Calling.{Good}
 use Rattle.sbp_target.proofs.Histories.Following.{IsServed}
 use Rattle.sbp_target.proofs.Histories.Primitives.{Known}
 use Rattle.sbp_target.proofs.Histories.Rested.{Came, came_for, for_ahead, for_main}
 use Rattle.sbp_target.proofs.Histories.Seats.{IsFor, Lives}
 use Rattle.sbp_world.proofs.Agents.Management.Holding.{Holding}
-use Rattle.sbp_world.specs.Agents.Serials.{kept_as}
 use Rattle.sbp_world.proofs.Agents.Purposes.{g, label_generation, state_is}
 
 -- two transactions with the same peer under the same label are one

@@ -1,37 +1,21 @@
 -- The target sees a generation, a second passes, or a unit gets a key: behind the turn the agents of the terms are the target's.
-use Rattle.std.proofs.Common.{arith, ◌≡◌, ◌∙◌, refl, sym, ap, subst, ℕ, ◌<◌, ◌≤◌, not, nat_eq, nat_lt, Bool, true, false, cond, List, [], length}
-use Rattle.std.proofs.lemmas.Bool.Decides.{nat_tests}
-use Rattle.bus_transactions.specs.Wire.{Node}
-use Rattle.label_table.specs.Layer.{Layer, seeing_step, seen_in_generation}
-use Rattle.rbc_disk.specs.Disk.{Disk}
-use Rattle.sbp_bus.specs.Generations.{id_of}
-use Rattle.sbp_journal.specs.Run.{Moment}
-use Rattle.sbp_journal.specs.Wire.{Terms, terms}
+use Rattle.sbp_world.proofs.Words.Std.{arith, ◌≡◌, ◌∙◌, refl, sym, ap, subst, ℕ, ◌<◌, ◌≤◌, not, nat_eq, nat_lt, Bool, true, false, cond, List, [], length, nat_tests}
+use Rattle.sbp_world.proofs.Words.Wire.{Node, Layer, seeing_step, seen_in_generation, id_of, Moment, Terms, terms, Outgoing}
+use Rattle.sbp_world.proofs.Words.Target.{Disk, Purpose, alone, sees, ticks, TargetScene, with_key}
+use Rattle.sbp_world.proofs.Words.Laws.{Agent, Target, over, reset_seen, target_by}
+use Rattle.sbp_world.proofs.Words.World.{handed_out, told_seen, with_seen, WorldState, with_note, with_target, Stands, Office, office_of, ticked, AreOf, Request, with_requests, AllLeave}
 use Rattle.sbp_journal.specs.declared.note.Note.TheVariants as notes
-use Rattle.sbp_journal.specs.declared.outbox.Outgoing.{Outgoing}
-use Rattle.sbp_laws.specs.Targets.{Agent, Target, over, reset_seen, target_by}
-use Rattle.sbp_target.specs.declared.purpose.Purpose.{Purpose}
-use Rattle.sbp_target.specs.Calls.{alone, sees, ticks}
-use Rattle.sbp_target.specs.Nodes.{Scene as TargetScene}
-use Rattle.sbp_target.specs.Receiving.{with_key}
-use Rattle.sbp_world.specs.Handing.{handed_out}
-use Rattle.sbp_world.specs.Nodes.{told_seen, with_seen}
-use Rattle.sbp_world.specs.Worlds.{WorldState, with_note, with_target}
-use Rattle.sbp_world.specs.Wire.Wires.{Stands}
 use Rattle.sbp_world.proofs.Wire.Bus.{aged, holds}
 use Rattle.sbp_world.proofs.Wire.Forgets.{seen_stays, ticked_stays}
 use Rattle.sbp_target.proofs.Histories.Calling.{Good}
 use Rattle.sbp_world.specs.Agents.Management.Calls as management
-use Rattle.sbp_world.specs.Agents.Management.Offices.{Office, office_of, ticked}
 use Rattle.sbp_world.proofs.Agents.Management.Calls.{forgets_if}
 use Rattle.sbp_world.proofs.Agents.Management.Firsts.{wire_is}
 use Rattle.sbp_world.proofs.Agents.Management.Holding.{Holding, target_generation}
 use Rattle.sbp_world.proofs.Agents.Management.Resting.{second_rests, sight_rests}
 use Rattle.sbp_world.proofs.Agents.Management.Still.{hist}
 use Rattle.sbp_world.proofs.Agents.Management.Told.{term_in}
-use Rattle.sbp_world.specs.Agents.Calls.{AreOf, seen}
-use Rattle.sbp_world.specs.Agents.Crews.{Request, with_requests}
-use Rattle.sbp_world.specs.Agents.Hands.{AllLeave}
+use Rattle.sbp_world.specs.Agents.Calls.{seen}
 use Rattle.sbp_world.proofs.Agents.CrewFirsts.{T, agrees, before, crew_keeps, none_waits, o}
 use Rattle.sbp_world.proofs.Agents.CrewTurns.{Begins, quiet_begins, turned_crew}
 use Rattle.sbp_world.proofs.Agents.Notes.{notes_law}

@@ -1,25 +1,16 @@
 -- A turn of the target: where its first note makes of the terms what the call makes of the agents, they are its agents again behind the turn.
-use Rattle.std.proofs.Common.{◌≡◌, ◌∙◌, sym, ap, subst, ℕ, List, [], ◌∷◌, Option, None}
-use Rattle.rbc_disk.specs.Disk.{Disk}
-use Rattle.sbp_journal.specs.Run.{Moment}
-use Rattle.sbp_journal.specs.Wire.{Terms, terms}
-use Rattle.sbp_journal.specs.declared.outbox.Outgoing.{Outgoing}
-use Rattle.sbp_journal.specs.declared.side.Side.{Side}
+use Rattle.sbp_world.proofs.Words.Std.{◌≡◌, ◌∙◌, sym, ap, subst, ℕ, List, [], ◌∷◌, Option, None}
+use Rattle.sbp_world.proofs.Words.Wire.{Moment, Terms, terms, Outgoing, Side}
+use Rattle.sbp_world.proofs.Words.Target.{Disk, NodeState, TargetScene}
+use Rattle.sbp_world.proofs.Words.Laws.{Agent, Reply, Target, over}
+use Rattle.sbp_world.proofs.Words.World.{handed_out, WorldState, Office, office_of, AreOf, Follow, Request, crew_over, crew_packets, crew_sides, with_requests, AllLeave, AreTold, MayResume, resumed}
 use Rattle.sbp_journal.specs.declared.side.Side.TheVariants as sides
-use Rattle.sbp_laws.specs.Targets.{Agent, Reply, Target, over}
-use Rattle.sbp_target.specs.Nodes.{NodeState, Scene as TargetScene}
-use Rattle.sbp_world.specs.Handing.{handed_out}
-use Rattle.sbp_world.specs.Worlds.{WorldState}
 use Rattle.sbp_target.proofs.Histories.Seats.{Lives}
-use Rattle.sbp_world.specs.Agents.Management.Offices.{Office, office_of}
 use Rattle.sbp_world.proofs.Agents.Management.Calls.{Doing, calmly, managing}
 use Rattle.sbp_world.proofs.Agents.Management.Managing.{quiet_says}
 use Rattle.sbp_world.proofs.Agents.Management.Sides.{AllBehind}
 use Rattle.sbp_world.proofs.Agents.Management.Still.{hist}
 use Rattle.sbp_world.proofs.Agents.Management.Told.{term_in}
-use Rattle.sbp_world.specs.Agents.Calls.{AreOf, Follow}
-use Rattle.sbp_world.specs.Agents.Crews.{Request, crew_over, crew_packets, crew_sides, with_requests}
-use Rattle.sbp_world.specs.Agents.Hands.{AllLeave, AreTold, MayResume, resumed}
 use Rattle.sbp_world.proofs.Agents.Hands.{hands_law}
 
 -- ---- a target tells no note of its own

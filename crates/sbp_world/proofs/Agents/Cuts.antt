@@ -1,18 +1,9 @@
 -- Agents are put into RESET where lists are cut.
-use Rattle.std.proofs.Common.{arith, ◌≡◌, ◌≢◌, ◌∙◌, refl, sym, ap, subst, ℕ, zero, suc, ◌+◌, ◌<◌, ◌≤◌, nat_eq, Bool, true, false, cond, length, Option}
-use Rattle.std.proofs.Math.ListN.{length-set}
-use Rattle.std.proofs.lemmas.Bool.Decides.{nat_tests}
+use Rattle.sbp_world.proofs.Words.Std.{arith, ◌≡◌, ◌≢◌, ◌∙◌, refl, sym, ap, subst, ℕ, zero, suc, ◌+◌, ◌<◌, ◌≤◌, nat_eq, Bool, true, false, cond, length, Option, length-set, nat_tests}
+use Rattle.sbp_world.proofs.Words.Wire.{CutCause}
+use Rattle.sbp_world.proofs.Words.Target.{Table, place_at, Machine, reset_step, Desk, cut, cut_node, new_desk, reset_desk, NodeState, Scene, desk_at, login_at, cut_at, cut_from, is_cut}
+use Rattle.sbp_world.proofs.Words.Laws.{Agent, cut_agent}
 use Rattle.label_table.proofs.Owned.{set_at}
-use Rattle.login_table.specs.Table.{Table, place_at}
-use Rattle.command_agent.specs.Machine.{Machine}
-use Rattle.command_agent.specs.Steps.{reset_step}
-use Rattle.sbp_journal.specs.declared.cause.CutCause.{CutCause}
-use Rattle.sbp_laws.specs.Targets.{Agent, cut_agent}
-use Rattle.sbp_target.specs.declared.desk.Desk.{Desk}
-use Rattle.sbp_target.specs.Agents.{cut, cut_node}
-use Rattle.sbp_target.specs.Desks.{new_desk, reset_desk}
-use Rattle.sbp_target.specs.Nodes.{NodeState, Scene, desk_at, login_at}
-use Rattle.sbp_target.specs.Units.{cut_at, cut_from, is_cut}
 use Rattle.sbp_world.proofs.Agents.Follows.{Settled}
 use Rattle.sbp_world.proofs.Agents.Steps.{reset_any}
 use Rattle.sbp_world.proofs.Agents.Management.Places.{next_below, other_id}

@@ -1,20 +1,15 @@
 -- What a request asks of the agents and of their registers, as the laws read it by its address and as the target reads it.
-use Rattle.std.proofs.Common.{◌≡◌, ◌∙◌, refl, sym, ap, subst, ℕ, ◌-◌, ◌≤◌, ◌==◌, ◌&&◌, not, Bool, true, false, cond, Some, None, Result, Ok, Err}
-use Rattle.async_packet.specs.Packet.{Packet}
+use Rattle.sbp_world.proofs.Words.Std.{◌≡◌, ◌∙◌, refl, sym, ap, subst, ℕ, ◌-◌, ◌≤◌, ◌==◌, ◌&&◌, not, Bool, true, false, cond, Some, None, Result, Ok, Err}
+use Rattle.sbp_world.proofs.Words.Wire.{Packet, Access, Register, Start, access_of, agent_reset, agent_state, begins_in_rom, doorbell, is_start, lies_in_rom, management_agent, no_start, orb_pointer, register, rom_base, rom_start, start_at, start_serves, unsolicited_enable}
+use Rattle.sbp_world.proofs.Words.Target.{Busy, Demand, demand_of, or_nowhere, asked_at, asked_of}
+use Rattle.sbp_world.proofs.Words.Initiator.{Ask, offset_at, pointer_at}
+use Rattle.sbp_world.proofs.Words.Laws.{Target, agent_at, points, register_got, request_got, start_got, started_by, with_agent}
+use Rattle.sbp_world.proofs.Words.World.{accessed, DemandsLaw, enabled_by}
 use Rattle.mgmt_agent.specs.Machine as manager
-use Rattle.mgmt_agent.specs.declared.operation.Busy.{Busy}
-use Rattle.orb_layout.specs.declared.ask.Ask.{Ask}
-use Rattle.orb_layout.specs.Pointers.{offset_at, pointer_at}
-use Rattle.sbp_journal.specs.Addresses.{Access, Register, Start, access_of, agent_reset, agent_state, begins_in_rom, doorbell, is_start, lies_in_rom, management_agent, no_start, orb_pointer, register, rom_base, rom_start, start_at, start_serves, unsolicited_enable}
-use Rattle.sbp_laws.specs.Targets.{Target, agent_at, points, register_got, request_got, start_got, started_by, with_agent}
 use Rattle.target_base.specs.declared.address.Access.TheVariants as accesses
-use Rattle.target_base.specs.declared.address.Demand.{Demand}
 use Rattle.target_base.specs.declared.address.Demand.TheVariants as demands
-use Rattle.target_base.specs.Addresses.{demand_of, or_nowhere}
-use Rattle.sbp_target.specs.Histories.Judgements.{asked_at, asked_of}
 use Rattle.sbp_target.proofs.Histories.Asked.{Rows, demand_is, serves_is}
-use Rattle.sbp_world.specs.Agents.Calls.{accessed, demanded}
-use Rattle.sbp_world.specs.Agents.Demands.{DemandsLaw, enabled_by}
+use Rattle.sbp_world.specs.Agents.Calls.{demanded}
 use Rattle.sbp_world.proofs.Agents.Notes.{notes_law}
 
 -- what a demand leaves of the agents and the registers

@@ -1,44 +1,20 @@
 -- What notes make of the enabled registers of the terms: a request enables one, an unsolicited status uses one up, and a login that leaves disables its own.
-use Rattle.std.proofs.Common.{◌≡◌, ◌∙◌, refl, ap, ℕ, ◌+◌, ◌==◌, Bool, true, false, cond, List, [], ◌∷◌, ◌++◌, length, map, Option, Some, None, Result, Ok, Err}
-use Rattle.std.specs.Prelude.{is_none, position}
+use Rattle.sbp_world.proofs.Words.Std.{◌≡◌, ◌∙◌, refl, ap, ℕ, ◌+◌, ◌==◌, Bool, true, false, cond, List, [], ◌∷◌, ◌++◌, length, map, Option, Some, None, Result, Ok, Err, is_none, position}
+use Rattle.sbp_world.proofs.Words.Wire.{LabelParts, node_of, topology_at, function_word, login_if, Access, Register, Start, agent_reset, agent_state, doorbell, management_agent, no_start, orb_pointer, register, rom_start, start_at, start_serves, unsolicited_enable, Moment, said, Part, part_of, request, response, Terms, Event, Note, FunctionWord, Outgoing, Side}
+use Rattle.sbp_world.proofs.Words.Target.{Table, Effect, ManagerStep, Busy, Disk, Told}
+use Rattle.sbp_world.proofs.Words.Initiator.{Ask, Nothing, FailCause, Answer}
+use Rattle.sbp_world.proofs.Words.Laws.{access_in_bytes, Decided, Purpose, Reply, Target, disabled_at, effect_on, enters_in, entered_by, for_agent, for_manager, for_nobody, going_on, has_id, is_write_access, key_by, known_at, managed_by, manager_step, over, purpose_of, register_got, replied, replied_to, request_got, sent_as, sent_for, start_got, started_by, taken_on, target_by, wants, wants_it, is_own_run, event_of}
+use Rattle.sbp_world.proofs.Words.World.{asked, posted, sent, sent_all, sent_to, holder, initiator_of, told, told_all, WorldState, with_note, Office, by_side}
 use Rattle.std.proofs.lemmas.List.{length-set}
-use Rattle.async_packet.specs.Labels.{LabelParts}
-use Rattle.login_table.specs.Table.{Table}
-use Rattle.mgmt_agent.specs.declared.decision.Effect.{Effect}
 use Rattle.mgmt_agent.specs.declared.decision.Effect.TheVariants as effects
-use Rattle.mgmt_agent.specs.declared.decision.ManagerStep.{ManagerStep}
-use Rattle.mgmt_agent.specs.declared.operation.Busy.{Busy}
 use Rattle.mgmt_agent.specs.Machine as manager
-use Rattle.orb_layout.specs.declared.ask.Ask.{Ask}
-use Rattle.orb_layout.specs.declared.ask.Ask.TheVariants.{Nothing}
-use Rattle.orb_layout.specs.declared.ask.FailCause.{FailCause}
 use Rattle.orb_layout.specs.declared.ask.FailCause.TheVariants as causes
-use Rattle.orb_layout.specs.Replies.{Answer}
-use Rattle.rbc_disk.specs.Disk.{Disk}
-use Rattle.rbc_disk.specs.Runs.{Told}
-use Rattle.sbp_bus.specs.Generations.{node_of, topology_at}
-use Rattle.sbp_bus.specs.Words.{function_word, login_if}
-use Rattle.sbp_journal.specs.Addresses.{Access, Register, Start, agent_reset, agent_state, doorbell, management_agent, no_start, orb_pointer, register, rom_start, start_at, start_serves, unsolicited_enable}
-use Rattle.sbp_journal.specs.Run.{Moment, said}
-use Rattle.sbp_journal.specs.Transactions.{Part, no_packet, part_of, request, response}
-use Rattle.sbp_journal.specs.Wire.{Terms}
-use Rattle.sbp_journal.specs.declared.event.Event.{Event}
+use Rattle.sbp_journal.specs.Transactions.{no_packet}
 use Rattle.sbp_journal.specs.declared.event.Event.TheVariants as events
-use Rattle.sbp_journal.specs.declared.note.Note.{Note}
 use Rattle.sbp_journal.specs.declared.note.Note.TheVariants as notes
-use Rattle.sbp_journal.specs.declared.operation.FunctionWord.{FunctionWord}
 use Rattle.sbp_journal.specs.declared.operation.FunctionWord.TheVariants as functions
-use Rattle.sbp_journal.specs.declared.outbox.Outgoing.{Outgoing}
-use Rattle.sbp_journal.specs.declared.side.Side.{Side}
 use Rattle.sbp_journal.specs.declared.side.Side.TheVariants as sides
-use Rattle.sbp_laws.specs.Packets.{access_in_bytes}
-use Rattle.sbp_laws.specs.Targets.{Decided, Purpose, Reply, Target, disabled_at, effect_on, enters_in, entered_by, for_agent, for_manager, for_nobody, going_on, has_id, is_write_access, key_by, known_at, managed_by, manager_step, over, purpose_of, register_got, replied, replied_to, request_got, sent_as, sent_for, start_got, started_by, taken_on, target_by, wants, wants_it, is_own_run}
-use Rattle.sbp_laws.specs.Turns.{event_of}
 use Rattle.sbp_laws.proofs.Going.{AgentsAlone, going_alone, run_alone, taken_alone}
-use Rattle.sbp_world.specs.Sending.{asked, posted, sent, sent_all, sent_to}
-use Rattle.sbp_world.specs.Telling.{holder, initiator_of, told, told_all}
-use Rattle.sbp_world.specs.Worlds.{WorldState, with_note}
-use Rattle.sbp_world.specs.Agents.Management.Offices.{Office, by_side}
 use Rattle.sbp_world.proofs.Agents.Management.Sides.{AllBehind, TellsBehind}
 use Rattle.sbp_world.proofs.Agents.Management.Told.{office_in, one_side, term_in}
 

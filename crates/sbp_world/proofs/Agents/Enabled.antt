@@ -1,44 +1,12 @@
 -- A desk whose register for unsolicited status is enabled has a live login, after every list of calls of a target.
-use Rattle.std.proofs.Common.{arith, ◌≡◌, ◌∙◌, refl, sym, ap, subst, ℕ, zero, suc, ◌+◌, ◌<◌, ◌≤◌, nat_eq, nat_lt, Bool, true, false, cond, List, [], length, Option, Some, None, Result, Ok, Err}
-use Rattle.std.specs.Prelude.{slice_index_or}
-use Rattle.std.proofs.lemmas.Bool.Decides.{nat_tests}
-use Rattle.std.proofs.lemmas.List.{set_past}
-use Rattle.std.proofs.lemmas.Bool.{false≢true}
-use Rattle.async_packet.specs.Labels.{LabelParts}
-use Rattle.async_packet.specs.Packet.{Packet}
-use Rattle.label_table.specs.Bodies.{block_write}
-use Rattle.label_table.specs.Layer.{Layer}
+use Rattle.sbp_world.proofs.Words.Std.{arith, ◌≡◌, ◌∙◌, refl, sym, ap, subst, ℕ, zero, suc, ◌+◌, ◌<◌, ◌≤◌, nat_eq, nat_lt, Bool, true, false, cond, List, [], length, Option, Some, None, Result, Ok, Err, slice_index_or, nat_tests, set_past, false≢true}
+use Rattle.sbp_world.proofs.Words.Wire.{LabelParts, Packet, block_write, Layer, CutCause, OutboxState}
+use Rattle.sbp_world.proofs.Words.Target.{AgentStep, PointRefusal, Which, Ahead, Main, AgentMachine, asks, doorbell_step, point_step, agent_reply, block, disk_at, Told, Login, Access, Desk, Purpose, cut, disowned, follow, expired_desk, new_desk, point_desk, pointed_desk, reset_desk, taken, which_in, clear_one, cut_placed, NodeState, Scene, desk_at, login_at, scene, with_desk, expire_agent, expired_by, expired_with, Stage, Whole, advance, advanced_with, announced_by, came, changed_by, follow_all, plain_at, replied, replied_by, replied_to, replied_with, served_login, stage, request_step, accessed_by, answered, asked_in, point, pointed_by, ring, rung_by, clear_from, clear_unit, cut_all, unsolicited_by, Announced, pushes, stay, withholds}
+use Rattle.sbp_world.proofs.Words.Initiator.{Ask, Answer}
 use Rattle.label_table.proofs.Owned.{set_at}
-use Rattle.command_agent.specs.declared.step.AgentStep.{AgentStep}
-use Rattle.command_agent.specs.declared.step.PointRefusal.{PointRefusal}
-use Rattle.command_agent.specs.declared.step.Which.{Which}
-use Rattle.command_agent.specs.declared.step.Which.TheVariants.{Ahead, Main}
-use Rattle.command_agent.specs.Machine.{Machine as AgentMachine}
-use Rattle.command_agent.specs.Steps.{asks, doorbell_step, point_step, reply_step as agent_reply}
-use Rattle.media_bay.specs.Unsolicited.{block}
-use Rattle.orb_layout.specs.declared.ask.Ask.{Ask}
-use Rattle.orb_layout.specs.Replies.{Answer}
-use Rattle.rbc_disk.specs.Disk.{disk_at}
-use Rattle.rbc_disk.specs.Runs.{Told}
-use Rattle.login_table.specs.declared.login.Login.{Login}
-use Rattle.sbp_journal.specs.declared.cause.CutCause.{CutCause}
-use Rattle.sbp_journal.specs.Outgoings.{OutboxState}
-use Rattle.target_base.specs.declared.address.Access.{Access}
 use Rattle.target_base.specs.declared.address.Access.TheVariants as accesses
-use Rattle.sbp_target.specs.declared.desk.Desk.{Desk}
-use Rattle.sbp_target.specs.declared.purpose.Purpose.{Purpose}
 use Rattle.sbp_target.specs.declared.purpose.Purpose.TheVariants as purposes
-use Rattle.sbp_target.specs.Agents.{cut, disowned, follow}
-use Rattle.sbp_target.specs.Desks.{expired_desk, new_desk, point_desk, pointed_desk, reset_desk, taken, which_in}
-use Rattle.sbp_target.specs.Management.{clear_one, cut_placed}
-use Rattle.sbp_target.specs.Nodes.{NodeState, Scene, desk_at, login_at, scene, with_desk}
-use Rattle.sbp_target.specs.Receiving.{expire_agent, expired_by, expired_with}
-use Rattle.sbp_target.specs.Replies.{Stage, Whole, advance, advanced_with, announced_by, came, changed_by, follow_all, plain_at, replied, replied_by, replied_to, replied_with, served_login, stage}
-use Rattle.sbp_target.specs.Sending.{request_step}
-use Rattle.sbp_target.specs.Serving.{accessed_by, answered, asked_in, point, pointed_by, ring, rung_by}
-use Rattle.sbp_target.specs.Units.{clear_from, clear_unit, cut_all, unsolicited_by}
 use Rattle.sbp_target.proofs.Histories.Framed as framed
-use Rattle.sbp_target.specs.Histories.Moves.{Announced, pushes, stay, withholds}
 use Rattle.sbp_target.proofs.Histories.Moved.{announced_moves}
 use Rattle.sbp_target.proofs.Histories.Views.{cuts_keep, kept, placed_keep}
 

@@ -1,60 +1,24 @@
 -- Each call of a target leaves each desk whose register is enabled a live login.
-use Rattle.std.proofs.Common.{arith, ◌≡◌, ◌≢◌, ◌∙◌, refl, sym, ap, subst, ℕ, ◌<◌, ◌≤◌, nat_eq, nat_lt, Bool, true, false, cond, List, [], ◌∷◌, length, map, replicate, Option, Some, None, Result, Ok, Err}
-use Rattle.std.specs.Prelude.{slice_index_or}
-use Rattle.std.proofs.Math.ListN.{get_or-map}
-use Rattle.std.proofs.lemmas.Bool.Decides.{nat_tests}
-use Rattle.std.proofs.lemmas.Grind.{common_steps}
-use Rattle.std.proofs.lemmas.List.{set_past}
-use Rattle.std.proofs.lemmas.Bool.{false≢true}
-use Rattle.async_packet.specs.Labels.{LabelParts}
-use Rattle.async_packet.specs.Packet.{Packet, header_in}
-use Rattle.label_table.specs.declared.reply.Stale.{Stale}
+use Rattle.sbp_world.proofs.Words.Std.{arith, ◌≡◌, ◌≢◌, ◌∙◌, refl, sym, ap, subst, ℕ, ◌<◌, ◌≤◌, nat_eq, nat_lt, Bool, true, false, cond, List, [], ◌∷◌, length, map, replicate, Option, Some, None, Result, Ok, Err, slice_index_or, get_or-map, nat_tests, common_steps, set_past, false≢true}
+use Rattle.sbp_world.proofs.Words.Wire.{LabelParts, Packet, header_in, Stale, Finding, Layer, expiring_step, judging_step, of_again, of_generation, of_grammar, of_label, of_request, of_response, seeing_step, Judged, empty_outbox}
+use Rattle.sbp_world.proofs.Words.Target.{Login, Table, is_last, is_live, one_less, login_ticked, Decision, Effect, ManagerStep, Busy, Disk, Told, Access, Demand, demand_of, Desk, Purpose, Call, after, alone, lets_expire, receives, sees, sets_key, ticks, disabled, new_desk, ask_manager, cut_placed, decided_by, effect_by, failed_by, manage, managed_in, managed_with, place_in, with_manager, NodeState, Scene, desk_at, scene, with_desk, answer_in, concluded, expire_agent, expired, expired_in, judged_scene, new_node, received, received_as, reset_by, seen, ticked, timed_out, with_layer, Whole, replied_to, scene_of, whole, accessed_by, answered, is_barred, serve, served_as, start, target_started, cut_all, abort_step, stay, still}
+use Rattle.sbp_world.proofs.Words.Initiator.{Ask, Nothing, Answer, Expired}
+use Rattle.sbp_world.proofs.Words.World.{ready_logins, after_run, beginning, begun_scene, Office, AreLive, EnabledBetweenLaw, EnabledLaw, HasLive}
 use Rattle.label_table.specs.History as wire
-use Rattle.label_table.specs.Layer.{Finding, Layer, expiring_step, judging_step, of_again, of_generation, of_grammar, of_label, of_request, of_response, seeing_step}
 use Rattle.label_table.proofs.Owned.{set_at}
-use Rattle.login_table.specs.declared.login.Login.{Login}
-use Rattle.login_table.specs.Table.{Table, is_last, is_live, one_less, ticked as login_ticked}
-use Rattle.mgmt_agent.specs.declared.decision.Decision.{Decision}
-use Rattle.mgmt_agent.specs.declared.decision.Effect.{Effect}
 use Rattle.mgmt_agent.specs.declared.decision.Effect.TheVariants as effects
-use Rattle.mgmt_agent.specs.declared.decision.ManagerStep.{ManagerStep}
-use Rattle.mgmt_agent.specs.declared.operation.Busy.{Busy}
 use Rattle.mgmt_agent.specs.Machine as management
-use Rattle.orb_layout.specs.declared.ask.Ask.{Ask}
-use Rattle.orb_layout.specs.declared.ask.Ask.TheVariants.{Nothing}
-use Rattle.orb_layout.specs.Replies.{Answer, Expired}
-use Rattle.rbc_disk.specs.Disk.{Disk}
-use Rattle.rbc_disk.specs.Runs.{Told}
 use Rattle.sbp_journal.specs.declared.cause.CutCause.TheVariants as cuts
-use Rattle.sbp_journal.specs.declared.cause.Judged.{Judged}
 use Rattle.sbp_journal.specs.declared.cause.Judged.TheVariants as judgements
 use Rattle.sbp_journal.specs.declared.cause.Cause.TheVariants as ignored
-use Rattle.sbp_journal.specs.Outgoings.{empty_outbox}
-use Rattle.target_base.specs.declared.address.Access.{Access}
-use Rattle.target_base.specs.declared.address.Demand.{Demand}
 use Rattle.target_base.specs.declared.address.Demand.TheVariants as demands
-use Rattle.target_base.specs.Addresses.{demand_of}
-use Rattle.sbp_target.specs.declared.desk.Desk.{Desk}
-use Rattle.sbp_target.specs.declared.purpose.Purpose.{Purpose}
 use Rattle.sbp_target.specs.declared.purpose.Purpose.TheVariants as purposes
-use Rattle.sbp_target.specs.Calls.{Call, after, alone, lets_expire, receives, sees, sets_key, ticks}
-use Rattle.sbp_target.specs.Desks.{disabled, new_desk}
-use Rattle.sbp_target.specs.Management.{ask_manager, cut_placed, decided_by, effect_by, failed_by, manage, managed_in, managed_with, place_in, with_manager}
-use Rattle.sbp_target.specs.Nodes.{NodeState, Scene, desk_at, scene, with_desk}
-use Rattle.sbp_target.specs.Receiving.{answer_in, concluded, expire_agent, expired, expired_in, judged_scene, new_node, received, received_as, reset_by, seen, ticked, timed_out, with_layer}
-use Rattle.sbp_target.specs.Replies.{Whole, replied_to, scene_of, whole}
-use Rattle.sbp_target.specs.Serving.{accessed_by, answered, is_barred, request_step, serve, served_as, start, started_by as target_started}
-use Rattle.sbp_target.specs.Units.{cut_all}
-use Rattle.command_agent.specs.Steps.{abort_step}
-use Rattle.sbp_world.specs.Making.{ready_logins}
-use Rattle.sbp_world.specs.Runs.{after as after_run, beginning}
-use Rattle.sbp_world.specs.Worlds.{begun as begun_scene}
+use Rattle.sbp_target.specs.Serving.{request_step}
 use Rattle.sbp_target.proofs.Histories.Calling.{Good}
 use Rattle.sbp_target.proofs.Histories.Found.{IsFound, found}
 use Rattle.sbp_target.proofs.Histories.Primitives.{Known, closing_known, expiring_known, live_on}
 use Rattle.sbp_target.proofs.Histories.Seats.{Lives}
 use Rattle.sbp_target.proofs.Histories.Settled.{all_good, reaches}
-use Rattle.sbp_world.specs.Agents.Management.Offices.{Office}
 use Rattle.sbp_world.proofs.Agents.Management.Calls.{barred_same, from_self}
 use Rattle.sbp_world.proofs.Agents.Management.Calm as calm
 use Rattle.sbp_world.proofs.Agents.Management.Calm.{Calm, From}
@@ -62,13 +26,11 @@ use Rattle.sbp_world.proofs.Agents.Management.Managing.{decision_stands}
 use Rattle.sbp_world.proofs.Agents.Management.Lines.{all_heard, opens}
 use Rattle.sbp_world.proofs.Agents.Management.Runs.{holds_after, no_repeats, not_reset}
 use Rattle.sbp_world.proofs.Agents.Management.Still.{hist}
-use Rattle.sbp_world.specs.Agents.Enabled.{AreLive, EnabledBetweenLaw, EnabledLaw, HasLive}
 use Rattle.sbp_world.proofs.Agents.Enabled.{Enabled, accesses_by, clears_from, clears_one, cuts_all, cuts_placed, lapses, replies, set_enabled}
 use Rattle.sbp_world.proofs.Agents.Hiring.{reply_hires}
 use Rattle.sbp_world.proofs.Agents.Serves.{ask_keeps, start_keeps}
 use Rattle.sbp_world.proofs.Agents.Sparing.{Spares, reply_spares}
 use Rattle.sbp_world.proofs.Hosts.Runs.{are_told}
-use Rattle.sbp_target.specs.Histories.Moves.{stay, still}
 use Rattle.sbp_target.proofs.Histories.Moved.{ask_manager_moves}
 use Rattle.sbp_target.proofs.Histories.Views.{node_left}
 

@@ -1,26 +1,10 @@
 -- What the requests that nodes send make of those that the bus has: each stands at the place of its node, its peer and its label, with its serial.
-use Rattle.std.proofs.Common.{arith, ◌≡◌, ◌∙◌, ◌⊎◌, refl, sym, ap, subst, inl, inr, ℕ, zero, suc, ◌+◌, ◌<◌, nat_eq, Bool, true, false, List, [], ◌∷◌, length, Option, Some, None}
-use Rattle.std.specs.Prelude.{position, slice_index_or}
-use Rattle.std.proofs.lemmas.Grind.{get_or-set_at}
-use Rattle.std.proofs.lemmas.List.{get_or-set_other, length-set}
-use Rattle.std.proofs.lemmas.List.Quantifiers.{position-Some}
-use Rattle.async_packet.specs.Labels.{LabelParts}
-use Rattle.packet_store.specs.Stored.{Stored}
-use Rattle.sbp_bus.specs.declared.requests.Request.{Request as BusRequest}
-use Rattle.sbp_bus.specs.Generations.{GenerationsState, node_of}
-use Rattle.sbp_bus.specs.Requests.{RequestsState, add_step, find, place_of, request_at}
-use Rattle.sbp_bus.specs.Sending.{request_of}
-use Rattle.sbp_journal.specs.declared.outbox.Outgoing.{Outgoing}
-use Rattle.sbp_journal.specs.declared.side.Side.{Side}
+use Rattle.sbp_world.proofs.Words.Std.{arith, ◌≡◌, ◌∙◌, ◌⊎◌, refl, sym, ap, subst, inl, inr, ℕ, zero, suc, ◌+◌, ◌<◌, nat_eq, Bool, true, false, List, [], ◌∷◌, length, Option, Some, None, position, slice_index_or, get_or-set_at, get_or-set_other, position-Some}
+use Rattle.sbp_world.proofs.Words.Wire.{LabelParts, Stored, BusRequest, GenerationsState, node_of, RequestsState, add_step, find, place_of, request_at, request_of, Outgoing, Side, OutboxState}
+use Rattle.sbp_world.proofs.Words.World.{handed_out, asked, posted, sent, sent_all, sent_to, told, told_all, WorldState, Has, Request, with_request, with_requests, AllLeave}
+use Rattle.std.proofs.lemmas.List.{length-set}
 use Rattle.sbp_journal.specs.declared.side.Side.TheVariants as sides
-use Rattle.sbp_journal.specs.Outgoings.{OutboxState}
-use Rattle.sbp_world.specs.Handing.{handed_out}
-use Rattle.sbp_world.specs.Sending.{asked, posted, sent, sent_all, sent_to}
-use Rattle.sbp_world.specs.Telling.{told, told_all}
-use Rattle.sbp_world.specs.Worlds.{WorldState}
 use Rattle.sbp_world.proofs.Wire.Alike.{sent_alike}
-use Rattle.sbp_world.specs.Agents.Crews.{Has, Request, with_request, with_requests}
-use Rattle.sbp_world.specs.Agents.Hands.{AllLeave}
 use Rattle.sbp_world.proofs.Agents.Serials.{Within, requests_within}
 use Rattle.sbp_world.proofs.Common.{equal_numbers}
 use Rattle.sbp_world.proofs.Wire.Latest.{differ_by, found_at}

@@ -1,35 +1,15 @@
 -- What follows a step of an agent leaves its term as it leaves the agent.
-use Rattle.std.proofs.Common.{◌≡◌, ◌∙◌, refl, sym, ap, subst, ℕ, ◌<◌, ◌&&◌, ◌||◌, not, nat_lt, is_some, Bool, true, false, cond, List, Option, Some, None}
-use Rattle.std.proofs.lemmas.Bool.{false≢true, true≢false}
-use Rattle.label_table.specs.declared.judgement.Asked.{Asked}
-use Rattle.label_table.specs.Bodies.{Body}
-use Rattle.label_table.specs.Layer.{Layer, asking_step, free_labels}
-use Rattle.label_table.specs.Requests.{is_write}
-use Rattle.login_table.specs.declared.login.Login.{Login}
-use Rattle.orb_layout.specs.declared.ask.Ask.{Ask}
-use Rattle.orb_layout.specs.declared.ask.Ask.TheVariants.{Nothing, Read, Write}
-use Rattle.orb_layout.specs.declared.ask.FailCause.{FailCause}
+use Rattle.sbp_world.proofs.Words.Std.{◌≡◌, ◌∙◌, refl, sym, ap, subst, ℕ, ◌<◌, ◌&&◌, ◌||◌, not, nat_lt, is_some, Bool, true, false, cond, List, Option, Some, None, false≢true, true≢false}
+use Rattle.sbp_world.proofs.Words.Wire.{Asked, Body, Layer, asking_step, free_labels, is_write, Outgoing, OutboxState}
+use Rattle.sbp_world.proofs.Words.Target.{Login, Phase, AgentStep, Ahead, Main, Machine, is_ahead, is_sent, is_under_way, lost_step, main_loss, quiet, Purpose, after_ahead, after_loss, after_main, agent_body, ahead_asked, ahead_sent, ask_ahead, ask_main, follow, lose, lose_main, lost_by, noted, send_ahead, NodeState, Scene, desk_at, scene, with_agent, with_desk, request_step, sent_by, with_packet, tell_step, Desk}
+use Rattle.sbp_world.proofs.Words.Initiator.{Ask, Nothing, Read, Write, FailCause}
+use Rattle.sbp_world.proofs.Words.Laws.{Agent, agent_over, ahead_lost, is_nothing, main_lost, moved, sends_of, wants}
+use Rattle.sbp_world.proofs.Words.World.{Alike, Request, with_requests}
 use Rattle.orb_layout.specs.declared.ask.FailCause.TheVariants as causes
-use Rattle.command_agent.specs.declared.phase.Phase.{Phase}
 use Rattle.command_agent.specs.declared.phase.Phase.TheVariants as phases
-use Rattle.command_agent.specs.declared.step.AgentStep.{AgentStep}
-use Rattle.command_agent.specs.declared.step.Which.TheVariants.{Ahead, Main}
-use Rattle.command_agent.specs.Machine.{Machine, is_ahead, is_sent, is_under_way}
-use Rattle.command_agent.specs.Steps.{lost_step, main_lost as main_loss, quiet}
-use Rattle.sbp_journal.specs.declared.outbox.Outgoing.{Outgoing}
-use Rattle.sbp_journal.specs.Outgoings.{OutboxState}
-use Rattle.sbp_laws.specs.Targets.{Agent, agent_over, ahead_lost, is_nothing, main_lost, moved, sends_of, wants}
-use Rattle.sbp_target.specs.declared.purpose.Purpose.{Purpose}
 use Rattle.sbp_target.specs.declared.purpose.Purpose.TheVariants as purposes
-use Rattle.sbp_target.specs.Agents.{after_ahead, after_loss, after_main, agent_body, ahead_asked, ahead_sent, ask_ahead, ask_main, follow, lose, lose_main, lost_by, noted, send_ahead}
-use Rattle.sbp_target.specs.Nodes.{NodeState, Scene, desk_at, scene, with_agent, with_desk}
-use Rattle.sbp_target.specs.Sending.{request_step, sent_by, with_packet}
-use Rattle.sbp_target.specs.Telling.{tell_step}
-use Rattle.sbp_target.specs.declared.desk.Desk.{Desk}
 use Rattle.sbp_target.proofs.Histories.Stepped.{Behind, Carries, Fit, Lost, ahead_loses, is_asked, is_bare, last_loses, main_loses}
 use Rattle.sbp_world.proofs.Agents.Management.Requests.{writes_body}
-use Rattle.sbp_world.specs.Agents.Alike.{Alike}
-use Rattle.sbp_world.specs.Agents.Crews.{Request, with_requests}
 use Rattle.sbp_world.proofs.Agents.Serials.{Paired, Turning, more_has, more_within, number_after, one_more, one_unless, paired_as, paired_more, paired_unless, requests_within}
 use Rattle.sbp_world.proofs.Agents.Steps.{lost_alike}
 use Rattle.sbp_world.proofs.Agents.Walk.{Gone, Holds, IsOther, Left, Out, Told, dead_on, desk_set, holds_set, holds_still, main_leaves, main_none, notes_hold, notes_pair, notes_told, other_on, out_as, out_more, told_as, told_out}

@@ -1,42 +1,17 @@
 -- Requests of a turn have labels of their own.
-use Rattle.std.proofs.Common.{◌≡◌, ◌∙◌, ◌⊎◌, refl, sym, ap, subst, inl, inr, ℕ, ◌+◌, ◌<◌, Bool, true, false, cond, List, [], ◌∷◌, ◌++◌, Option, Some, None, Result, Ok, Err}
-use Rattle.async_packet.specs.Labels.{LabelParts}
-use Rattle.bus_transactions.specs.Steps.{AreAsks, IsAnswering, IsAsking, IsDelivery, IsExpiry, layer_after, request_to, requests_of, with_asked}
-use Rattle.bus_transactions.specs.Wire.{Reply}
-use Rattle.async_packet.specs.Packet.{Packet}
-use Rattle.label_table.specs.declared.judgement.Asked.{Asked}
-use Rattle.label_table.specs.declared.reply.ReplyKind.{ReplyKind}
-use Rattle.label_table.specs.declared.reply.Stale.{Stale}
-use Rattle.label_table.specs.Bodies.{Body}
+use Rattle.sbp_world.proofs.Words.Std.{◌≡◌, ◌∙◌, ◌⊎◌, refl, sym, ap, subst, inl, inr, ℕ, ◌+◌, ◌<◌, Bool, true, false, cond, List, [], ◌∷◌, ◌++◌, Option, Some, None, Result, Ok, Err}
+use Rattle.sbp_world.proofs.Words.Wire.{LabelParts, AreAsks, IsAnswering, IsAsking, IsDelivery, IsExpiry, layer_after, request_to, requests_of, with_asked, Reply, Packet, Asked, ReplyKind, Stale, Body, AreTold, IsTold, Life, and_before, began, closed, disowned, ended, expired, for_nobody, forgotten, lived, not_begun, over, told_by_asking, under_way, unknown, was_stale, Finding, Layer, answering_step, asking_step, expiring_step, judging_step, of_again, of_generation, of_grammar, of_label, of_request, of_response, unlabelled, kind_of, StoredSent, found_sent, Moment, Judged, Outgoing}
+use Rattle.sbp_world.proofs.Words.Target.{Disk, Held, Told, Purpose, Sent, alone, lets_expire, desk_at, received}
+use Rattle.sbp_world.proofs.Words.World.{whole_of, BytesTold, WorldState, Has, Request, with_requests, AreNew, LabelsAreNew}
 use Rattle.label_table.specs.History as wire
-use Rattle.label_table.specs.History.{AreTold, IsTold, Life, and_before, began, closed, disowned, ended, expired, for_nobody, forgotten, is_same, lived, not_begun, over, told_by_asking, under_way, unknown, was_stale}
-use Rattle.label_table.specs.Layer.{Finding, Layer, answering_step, asking_step, expiring_step, judging_step, of_again, of_generation, of_grammar, of_label, of_request, of_response, unlabelled}
-use Rattle.label_table.specs.Requests.{kind_of}
+use Rattle.label_table.specs.History.{is_same}
 use Rattle.label_table.proofs.Calls.{told_law}
-use Rattle.packet_store.specs.declared.sent.Sent.{Sent as StoredSent}
-use Rattle.packet_store.specs.Kept.{found_sent}
-use Rattle.rbc_disk.specs.Disk.{Disk}
-use Rattle.rbc_disk.specs.Held.{Held}
-use Rattle.rbc_disk.specs.Runs.{Told}
-use Rattle.sbp_journal.specs.Run.{Moment}
-use Rattle.sbp_journal.specs.declared.cause.Judged.{Judged}
-use Rattle.sbp_journal.specs.declared.outbox.Outgoing.{Outgoing}
-use Rattle.sbp_target.specs.declared.purpose.Purpose.{Purpose}
-use Rattle.sbp_target.specs.declared.purpose.Sent.{Sent}
-use Rattle.sbp_target.specs.Calls.{alone, lets_expire}
-use Rattle.sbp_target.specs.Nodes.{desk_at}
-use Rattle.sbp_target.specs.Receiving.{received}
-use Rattle.sbp_world.specs.Delivering.{whole_of}
-use Rattle.sbp_world.specs.FitTarget.{BytesTold}
-use Rattle.sbp_world.specs.Worlds.{WorldState}
 use Rattle.sbp_world.proofs.FitTarget.Law.{fitting_law}
 use Rattle.sbp_world.proofs.Wire.Holding.{KnownTo, known_small, target_has}
 use Rattle.sbp_target.proofs.Histories.Calling.{Good}
 use Rattle.sbp_target.proofs.Histories.Primitives.{Known, asks_known}
 use Rattle.sbp_target.proofs.Histories.Seats.{same_is, same_self}
 use Rattle.sbp_world.proofs.Agents.Management.Holding.{Holding, ours}
-use Rattle.sbp_world.specs.Agents.Crews.{Has, Request, with_requests}
-use Rattle.sbp_world.specs.Agents.Fresh.{AreNew, LabelsAreNew}
 use Rattle.sbp_world.proofs.Agents.Leaving.{good, led_to, source_known}
 use Rattle.sbp_world.proofs.Agents.Serials.{number_after, requests_more}
 

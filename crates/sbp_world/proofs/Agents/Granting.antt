@@ -1,36 +1,20 @@
 -- What a decision of the management agent says, by its function, its status and its effect: a reconnect at status 00 takes a login back, and nothing
 -- else does; and a login at status 00 is to a unit whose number has 8 bits.
-use Rattle.std.proofs.Common.{arith, ◌≡◌, ◌∙◌, refl, sym, ap, subst, ℕ, ◌+◌, ◌*◌, ◌^◌, ◌<◌, ◌==◌, ◌&&◌, not, nat_eq, nat_lt, Bool, true, false, cond, List, length, Option, Some, None, Result, Ok, Err}
-use Rattle.std.proofs.lemmas.Bool.{false≢true}
-use Rattle.sbp_base.specs.Quadlets.{quad}
-use Rattle.login_table.specs.declared.login.Entered.{Entered}
-use Rattle.login_table.specs.declared.login.Login.{Login}
-use Rattle.login_table.specs.declared.login.LoginRefusal.{LoginRefusal}
+use Rattle.sbp_world.proofs.Words.Std.{arith, ◌≡◌, ◌∙◌, refl, sym, ap, subst, ℕ, ◌+◌, ◌*◌, ◌^◌, ◌<◌, ◌==◌, ◌&&◌, not, nat_eq, nat_lt, Bool, true, false, cond, List, length, Option, Some, None, Result, Ok, Err, false≢true, quad}
+use Rattle.sbp_world.proofs.Words.Wire.{FunctionWord, function_word}
+use Rattle.sbp_world.proofs.Words.Target.{Entered, Login, LoginRefusal, Table, back_step, enter_step, leave_step, Decision, Effect, ManagerStep, Function, Operation, asked_by, back_decided, decide, decide_function, effect_of, key_at, lacks_key, left_decided, live_login, login_decided, on_login, reads_eui, unit_exists, with_status, beside, decide_step, decided_as, eui_step, high_eui_at, high_got, low_got, orb_got, reply_in, reply_to, response_written, status_written, function_of, number_of, status_of}
+use Rattle.sbp_world.proofs.Words.Initiator.{FailCause, ManagementOrb, management_orb, Answer, Done, Expired, NoLabel, Payload, Refused, payload_of, write_failure}
+use Rattle.sbp_world.proofs.Words.Laws.{Decided, decided_by, decided_in}
 use Rattle.login_table.specs.declared.login.LoginRefusal.TheVariants as refusals
-use Rattle.login_table.specs.Table.{Table, back_step, enter_step, leave_step}
-use Rattle.orb_layout.specs.declared.ask.FailCause.{FailCause}
-use Rattle.orb_layout.specs.declared.management.ManagementOrb.{ManagementOrb}
-use Rattle.orb_layout.specs.ManagementOrbs.{management_orb}
-use Rattle.orb_layout.specs.Replies.{Answer, Done, Expired, NoLabel, Payload, Refused, payload_of, write_failure}
-use Rattle.mgmt_agent.specs.declared.decision.Decision.{Decision}
-use Rattle.mgmt_agent.specs.declared.decision.Effect.{Effect}
 use Rattle.mgmt_agent.specs.declared.decision.Effect.TheVariants as effects
-use Rattle.mgmt_agent.specs.declared.decision.ManagerStep.{ManagerStep}
 use Rattle.mgmt_agent.specs.declared.decision.Outcome.{Outcome}
 use Rattle.mgmt_agent.specs.declared.decision.Response.TheVariants as responses
-use Rattle.mgmt_agent.specs.declared.function.Function.{Function}
 use Rattle.mgmt_agent.specs.declared.function.Function.TheVariants as functions
-use Rattle.mgmt_agent.specs.declared.operation.Operation.{Operation}
 use Rattle.mgmt_agent.specs.declared.operation.Phase.{Phase}
 use Rattle.mgmt_agent.specs.declared.operation.Phase.TheVariants as phases
 use Rattle.mgmt_agent.specs.declared.status.Status.TheVariants as statuses
-use Rattle.mgmt_agent.specs.Decisions.{asked_by, back_decided, decide, decide_function, effect_of, key_at, lacks_key, left_decided, live_login, login_decided, on_login, reads_eui, unit_exists, with_status}
-use Rattle.mgmt_agent.specs.Machine.{Machine, beside, decide_step, decided_as, eui_step, high_eui_at, high_got, low_got, orb_got, reply_in, reply_step, reply_to, response_written, status_written}
-use Rattle.mgmt_agent.specs.Statuses.{function_of, number_of, status_of}
-use Rattle.sbp_journal.specs.declared.operation.FunctionWord.{FunctionWord}
+use Rattle.mgmt_agent.specs.Machine.{Machine, reply_step}
 use Rattle.sbp_journal.specs.declared.operation.FunctionWord.TheVariants as words
-use Rattle.sbp_laws.specs.Targets.{Decided, decided_by, decided_in}
-use Rattle.sbp_bus.specs.Words.{function_word}
 
 abbrev pub IsBack : Effect → Type 0
 IsBack (effects.Back place) = Unit {0}

@@ -1,41 +1,19 @@
 -- What a serial is for, by the terms, is what its transaction is under way for at the target.
-use Rattle.std.proofs.Common.{arith, ◌≡◌, ◌∙◌, refl, sym, ap, subst, inl, inr, ℕ, zero, suc, ◌+◌, ◌<◌, ◌⊎◌, nat_eq, is_some, Bool, true, false, cond, List, [], ◌∷◌, length, Option, Some, None}
-use Rattle.std.proofs.lemmas.Bool.Decides.{nat_tests}
-use Rattle.std.proofs.lemmas.Bool.{false≢true}
-use Rattle.bus_transactions.specs.Wire.{transaction}
+use Rattle.sbp_world.proofs.Words.Std.{arith, ◌≡◌, ◌∙◌, refl, sym, ap, subst, inl, inr, ℕ, zero, suc, ◌+◌, ◌<◌, ◌⊎◌, nat_eq, is_some, Bool, true, false, cond, List, [], ◌∷◌, length, Option, Some, None, nat_tests, false≢true}
+use Rattle.sbp_world.proofs.Words.Wire.{transaction, Layer, find, serial_at, request_of, BusRequest, Moment, Kind, Transaction, begun_by, Terms, terms, waits}
+use Rattle.sbp_world.proofs.Words.Target.{Which, Ahead, Main, source_in, Disk, Purpose, Sent, desk_at, IsThat, IsUnderWay, TransactionLaw}
+use Rattle.sbp_world.proofs.Words.Laws.{Agent, TermPurpose, Target, for_agent, for_manager, for_nobody, is_serial, over, purpose_among, purpose_of, target_at}
+use Rattle.sbp_world.proofs.Words.World.{WorldState, Stands, Office, Awaits, AreOf, AreOne, Request, agent_in, AreHandedAt, AreKnown, IsForAgent, IsHanded}
 use Rattle.bus_transactions.proofs.Reaches.{goes_on}
-use Rattle.command_agent.specs.declared.step.Which.{Which}
-use Rattle.command_agent.specs.declared.step.Which.TheVariants.{Ahead, Main}
-use Rattle.label_table.specs.Layer.{Layer}
-use Rattle.mgmt_agent.specs.Machine.{source_in}
-use Rattle.rbc_disk.specs.Disk.{Disk}
-use Rattle.sbp_bus.specs.Requests.{find, serial_at}
-use Rattle.sbp_bus.specs.Sending.{request_of}
-use Rattle.sbp_bus.specs.declared.requests.Request.{Request as BusRequest}
-use Rattle.sbp_journal.specs.Run.{Moment}
-use Rattle.sbp_journal.specs.Transactions.{Kind, Transaction, begun_by}
-use Rattle.sbp_journal.specs.Wire.{Terms, terms, waits}
-use Rattle.sbp_laws.specs.Targets.{Agent, Purpose as TermPurpose, Target, for_agent, for_manager, for_nobody, is_serial, over, purpose_among, purpose_of, target_at}
-use Rattle.sbp_target.specs.declared.purpose.Purpose.{Purpose}
 use Rattle.sbp_target.specs.declared.purpose.Purpose.TheVariants as purposes
-use Rattle.sbp_target.specs.declared.purpose.Sent.{Sent}
-use Rattle.sbp_target.specs.Nodes.{desk_at}
-use Rattle.sbp_world.specs.Worlds.{WorldState}
-use Rattle.sbp_world.specs.Wire.Wires.{Stands}
 use Rattle.sbp_world.proofs.Wire.Holding.{KnownTo}
-use Rattle.sbp_target.specs.Histories.Transactions.{IsThat, IsUnderWay, TransactionLaw}
 use Rattle.sbp_target.proofs.Histories.Calling.{Good}
 use Rattle.sbp_target.proofs.Histories.Seats.{IsFor}
-use Rattle.sbp_world.specs.Agents.Management.Offices.{Office}
-use Rattle.sbp_world.specs.Agents.Management.Terms.{Awaits}
 use Rattle.sbp_world.proofs.Agents.Management.Awaiting.{under_for}
 use Rattle.sbp_world.proofs.Agents.Management.Holding.{Holding, past_terms, same_id}
 use Rattle.sbp_world.proofs.Agents.Management.Offices.{over_keeps}
 use Rattle.sbp_world.proofs.Agents.Management.Still.{hist}
-use Rattle.sbp_world.specs.Agents.Calls.{AreOf}
-use Rattle.sbp_world.specs.Agents.Crews.{AreOne, Request, agent_in}
 use Rattle.sbp_world.specs.Agents.Purposes.{HasRequest}
-use Rattle.sbp_world.specs.Agents.Serials.{AreHandedAt, AreKnown, IsForAgent, IsHanded}
 use Rattle.sbp_world.proofs.Agents.Purposes.{g, has_request, label_generation, law, operation_by, state_is}
 
 -- ---- which agent waits for a serial

@@ -1,37 +1,18 @@
 -- What the target hands out, and the agents of the terms.
-use Rattle.std.proofs.Common.{◌≡◌, ◌∙◌, refl, sym, ap, subst, ℕ, ◌+◌, ◌<◌, Bool, false, List, [], ◌∷◌, ◌++◌, length, map, Option, Some, None}
-use Rattle.std.specs.Prelude.{position}
-use Rattle.async_packet.specs.Labels.{LabelParts}
-use Rattle.label_table.specs.Requests.{is_write}
-use Rattle.orb_layout.specs.declared.ask.FailCause.{FailCause}
+use Rattle.sbp_world.proofs.Words.Std.{◌≡◌, ◌∙◌, refl, sym, ap, subst, ℕ, ◌+◌, ◌<◌, Bool, false, List, [], ◌∷◌, ◌++◌, length, map, Option, Some, None, position}
+use Rattle.sbp_world.proofs.Words.Wire.{LabelParts, is_write, Stored, GenerationsState, ran_note, function_word, login_if, Moment, said, Part, part_of, Terms, terms, Note, Outgoing, Side}
+use Rattle.sbp_world.proofs.Words.Target.{Disk}
+use Rattle.sbp_world.proofs.Words.Initiator.{FailCause}
+use Rattle.sbp_world.proofs.Words.Laws.{access_in_bytes, Agent, Reply, Target, initiator_at, is_own_run, is_write_access, known_at, main_lost, over, plain_for, ran_on, sent_as, sent_for, taken_on, target_at, wants_it}
+use Rattle.sbp_world.proofs.Words.World.{asked, posted, sent, sent_all, sent_to, holder, initiator_of, ticket_at, told, told_all, WorldState, with_note, Office, by_side, office_of, changed, answered, crew_over, crew_packet, crew_packets, crew_side, crew_sides, sent_among, AllLeave, AreTold, HandsLaw, IsOfStep, IsPart, IsRunOf, Leaves, MayResume, resumed, IsBehind}
 use Rattle.orb_layout.specs.declared.ask.FailCause.TheVariants as causes
-use Rattle.packet_store.specs.Stored.{Stored}
-use Rattle.rbc_disk.specs.Disk.{Disk}
-use Rattle.sbp_bus.specs.Generations.{GenerationsState}
-use Rattle.sbp_bus.specs.Telling.{ran_note}
-use Rattle.sbp_bus.specs.Words.{function_word, login_if}
-use Rattle.sbp_journal.specs.Run.{Moment, said}
-use Rattle.sbp_journal.specs.Transactions.{Part, part_of}
-use Rattle.sbp_journal.specs.Wire.{Terms, terms}
-use Rattle.sbp_journal.specs.declared.note.Note.{Note}
 use Rattle.sbp_journal.specs.declared.note.Note.TheVariants as notes
-use Rattle.sbp_journal.specs.declared.outbox.Outgoing.{Outgoing}
-use Rattle.sbp_journal.specs.declared.side.Side.{Side}
 use Rattle.sbp_journal.specs.declared.side.Side.TheVariants as sides
-use Rattle.sbp_laws.specs.Packets.{access_in_bytes}
-use Rattle.sbp_laws.specs.Targets.{Agent, Reply, Target, initiator_at, is_own_run, is_write_access, known_at, main_lost, over, plain_for, ran_on, sent_as, sent_for, taken_on, target_at, wants_it}
 use Rattle.sbp_laws.proofs.Going.{going_rests, own_run, run_rests, taken_rests, taken_still}
-use Rattle.sbp_world.specs.Sending.{asked, posted, sent, sent_all, sent_to}
-use Rattle.sbp_world.specs.Telling.{holder, initiator_of, ticket_at, told, told_all}
-use Rattle.sbp_world.specs.Worlds.{WorldState, with_note}
-use Rattle.sbp_world.specs.Agents.Management.Offices.{Office, by_side, office_of}
 use Rattle.sbp_world.proofs.Agents.Management.Firsts.{wire_is}
 use Rattle.sbp_world.proofs.Agents.Management.Sides.{AllBehind, TellsBehind}
 use Rattle.sbp_world.proofs.Agents.Management.Told.{one_side, term_in}
-use Rattle.sbp_world.specs.Agents.Calls.{changed}
-use Rattle.sbp_world.specs.Agents.Crews.{answered, crew_over, crew_packet, crew_packets, crew_side, crew_sides, sent_among}
-use Rattle.sbp_world.specs.Agents.Hands.{AllLeave, AreTold, HandsLaw, IsOfStep, IsPart, IsRunOf, Leaves, MayResume, resumed}
-use Rattle.sbp_world.specs.Agents.Notes.{IsBehind, by_note}
+use Rattle.sbp_world.specs.Agents.Notes.{by_note}
 use Rattle.sbp_world.proofs.Agents.Notes.{notes_law, sends_for}
 use Rattle.sbp_world.proofs.Lists.MainAnswers.{sends_for as sends_reply}
 

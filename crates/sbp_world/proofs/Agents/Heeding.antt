@@ -1,57 +1,17 @@
 -- What an agent of the target does to the registers for unsolicited status: each that is used up is told, behind the run that brought a disc, for another
 -- live login of the unit; and all others stay.
-use Rattle.std.proofs.Common.{arith, ◌≡◌, ◌∙◌, refl, sym, ap, subst, ℕ, ◌<◌, ◌≤◌, ◌&&◌, not, nat_eq, nat_lt, is_some, Bool, true, false, cond, List, [], ◌∷◌, ◌++◌, length, Option, Some, None, Result, Ok, Err}
-use Rattle.std.specs.Prelude.{slice_index_or}
-use Rattle.std.proofs.lemmas.Bool.Decides.{nat_tests}
-use Rattle.std.proofs.lemmas.Grind.{common_steps}
-use Rattle.std.proofs.lemmas.List.{set_past}
-use Rattle.std.proofs.lemmas.Bool.{false≢true}
-use Rattle.async_packet.specs.Labels.{LabelParts}
-use Rattle.async_packet.specs.Packet.{Packet, header_in}
-use Rattle.label_table.specs.declared.judgement.Asked.{Asked}
-use Rattle.label_table.specs.Bodies.{Body, block_write}
-use Rattle.label_table.specs.Layer.{Layer, asking_step, answering_step}
+use Rattle.sbp_world.proofs.Words.Std.{arith, ◌≡◌, ◌∙◌, refl, sym, ap, subst, ℕ, ◌<◌, ◌≤◌, ◌&&◌, not, nat_eq, nat_lt, is_some, Bool, true, false, cond, List, [], ◌∷◌, ◌++◌, length, Option, Some, None, Result, Ok, Err, slice_index_or, nat_tests, common_steps, set_past, false≢true}
+use Rattle.sbp_world.proofs.Words.Wire.{LabelParts, Packet, header_in, Asked, Body, block_write, Layer, asking_step, answering_step, CutCause, Side, OutboxState, empty_outbox}
+use Rattle.sbp_world.proofs.Words.Target.{Login, is_live, place_at, block, disk_at, Told, left_by, PlainDisk, Outcome, AgentStep, PointRefusal, Which, Ahead, Main, Machine, state_in, asks, doorbell_step, is_reset, lost_step, point_step, reply_step, Access, Desk, Purpose, ahead_sent, cut, dropped_by, follow, main_sent, noted, promoted_by, sent_to, told_cut, without_ahead, expired_desk, new_desk, point_desk, pointed_desk, promoted_desk, reset_desk, taken, which_in, NodeState, Scene, desk_at, login_at, scene, with_agent, with_desk, expire_agent, expired_by, expired_with, Stage, Whole, advance, advanced_with, announced_by, came, changed_by, follow_all, plain_at, replied, replied_by, replied_to, replied_with, scene_of, served_login, stage, answer_step, answered_by, request_step, sent_by, with_side, accessed_by, answered, asked_in, enabled, point, pointed_by, ring, rung_by, orb_of, tell_dead, tell_ended, tell_ran, tell_step, announce_from, unsolicited_by, Announced, Behind, asks_ahead, asks_main, loses, pushes, stay, withholds}
+use Rattle.sbp_world.proofs.Words.Initiator.{Ask, FailCause, StatusKind, Answer}
 use Rattle.label_table.proofs.Owned.{set_at}
-use Rattle.login_table.specs.declared.login.Login.{Login}
-use Rattle.login_table.specs.Table.{is_live, place_at}
-use Rattle.media_bay.specs.Unsolicited.{block}
-use Rattle.orb_layout.specs.declared.ask.Ask.{Ask}
-use Rattle.orb_layout.specs.declared.ask.FailCause.{FailCause}
 use Rattle.orb_layout.specs.declared.ask.FailCause.TheVariants as causes
-use Rattle.orb_layout.specs.declared.status.StatusKind.{StatusKind}
-use Rattle.orb_layout.specs.Replies.{Answer}
-use Rattle.rbc_disk.specs.Disk.{disk_at}
-use Rattle.rbc_disk.specs.Runs.{Told, left_by}
-use Rattle.rbc_disk.specs.Units.{PlainDisk}
-use Rattle.rbc_disk.specs.declared.command.Outcome.{Outcome}
-use Rattle.command_agent.specs.declared.step.AgentStep.{AgentStep}
-use Rattle.command_agent.specs.declared.step.PointRefusal.{PointRefusal}
-use Rattle.command_agent.specs.declared.step.Which.{Which}
-use Rattle.command_agent.specs.declared.step.Which.TheVariants.{Ahead, Main}
-use Rattle.command_agent.specs.Machine.{Machine, state_in}
-use Rattle.command_agent.specs.Steps.{asks, doorbell_step, is_reset, lost_step, point_step, reply_step}
-use Rattle.sbp_journal.specs.declared.cause.CutCause.{CutCause}
 use Rattle.sbp_journal.specs.declared.cause.CutCause.TheVariants as cuts
-use Rattle.sbp_journal.specs.declared.side.Side.{Side}
 use Rattle.sbp_journal.specs.declared.side.Side.TheVariants as sides
-use Rattle.sbp_journal.specs.Outgoings.{OutboxState, empty_outbox}
-use Rattle.target_base.specs.declared.address.Access.{Access}
 use Rattle.target_base.specs.declared.address.Access.TheVariants as accesses
-use Rattle.sbp_target.specs.declared.desk.Desk.{Desk}
-use Rattle.sbp_target.specs.declared.purpose.Purpose.{Purpose}
 use Rattle.sbp_target.specs.declared.purpose.Purpose.TheVariants as purposes
-use Rattle.sbp_target.specs.Agents.{ahead_sent, cut, dropped_by, follow, main_sent, noted, promoted_by, sent_to, told_cut, without_ahead}
-use Rattle.sbp_target.specs.Desks.{expired_desk, new_desk, point_desk, pointed_desk, promoted_desk, reset_desk, taken, which_in}
-use Rattle.sbp_target.specs.Nodes.{NodeState, Scene, desk_at, login_at, scene, with_agent, with_desk}
-use Rattle.sbp_target.specs.Receiving.{expire_agent, expired_by, expired_with}
-use Rattle.sbp_target.specs.Replies.{Stage, Whole, advance, advanced_with, announced_by, came, changed_by, follow_all, plain_at, replied, replied_by, replied_to, replied_with, scene_of, served_login, stage}
-use Rattle.sbp_target.specs.Sending.{answer_step, answered_by, request_step, sent_by, with_side}
-use Rattle.sbp_target.specs.Serving.{accessed_by, answered, asked_in, enabled, point, pointed_by, ring, rung_by}
-use Rattle.sbp_target.specs.Telling.{orb_of, tell_dead, tell_ended, tell_ran, tell_step}
-use Rattle.sbp_target.specs.Units.{announce_from, unsolicited_by}
 use Rattle.sbp_world.proofs.Agents.Loads.{came_not, came_there}
 use Rattle.sbp_world.proofs.Agents.AskedReplies.{served_is}
-use Rattle.sbp_target.specs.Histories.Moves.{Announced, Behind, asks_ahead, asks_main, loses, pushes, stay, withholds}
 use Rattle.sbp_target.proofs.Histories.Moved.{announced_moves, behind_moves}
 use Rattle.sbp_target.proofs.Histories.Views.{kept}
 

@@ -1,33 +1,11 @@
 -- Who has a place of the target's logins, in every run.
-use Rattle.std.proofs.Common.{arith, ◌≡◌, ◌≢◌, ◌∙◌, refl, sym, ap, subst, ℕ, zero, suc, ◌+◌, ◌^◌, ◌<◌, ◌≤◌, ◌&&◌, nat_eq, Bool, true, false, cond, List, [], ◌∷◌, ◌++◌, length, map, Option, Some, None}
-use Rattle.std.specs.Prelude.{unwrap_or}
-use Rattle.std.proofs.lemmas.Bool.Decides.{nat_tests}
-use Rattle.std.proofs.lemmas.List.{get_or-replicate}
-use Rattle.std.proofs.lemmas.Bool.{false≢true}
-use Rattle.login_table.specs.declared.login.Login.{Login}
-use Rattle.login_table.specs.Sound.{IsSound}
-use Rattle.login_table.specs.Table.{Table, find, is_live, is_of_node, place_at}
+use Rattle.sbp_world.proofs.Words.Std.{arith, ◌≡◌, ◌≢◌, ◌∙◌, refl, sym, ap, subst, ℕ, zero, suc, ◌+◌, ◌^◌, ◌<◌, ◌≤◌, ◌&&◌, nat_eq, Bool, true, false, cond, List, [], ◌∷◌, ◌++◌, length, map, Option, Some, None, unwrap_or, nat_tests, get_or-replicate, false≢true}
+use Rattle.sbp_world.proofs.Words.Wire.{Topology, Holder, first_ids, first_topology, id_of, no_topology, topology_at, holder_of, new_places, place_in, Moment, asked, said, Terms, local_id, terms}
+use Rattle.sbp_world.proofs.Words.Target.{Login, IsSound, Table, find, is_live, is_of_node, place_at, Operation, source_in, Disk}
+use Rattle.sbp_world.proofs.Words.Laws.{id_for, Target, first_login, first_table, initiator_from, initiator_with, node_in, place_on, target_at}
+use Rattle.sbp_world.proofs.Words.World.{FitsOperation, Holds, new_world, ready_logins, AreEntries, Entry, Run, after, beginning, after_all, initiator_of, AreLines, Stands, WorldState, begun, AreHeldAt, HoldersBetweenLaw, HoldersLaw, IsHeld, IsLiveOf}
 use Rattle.login_table.proofs.Searching.{found as login_found, not_found}
-use Rattle.mgmt_agent.specs.declared.operation.Operation.{Operation}
-use Rattle.mgmt_agent.specs.Machine.{source_in}
-use Rattle.rbc_disk.specs.Disk.{Disk}
-use Rattle.sbp_bus.specs.declared.generations.Topology.{Topology}
-use Rattle.sbp_bus.specs.declared.places.Holder.{Holder}
-use Rattle.sbp_bus.specs.Generations.{first_ids, first_topology, id_of, no_topology, topology_at}
-use Rattle.sbp_bus.specs.Places.{holder_of, new_places, place_in}
 use Rattle.sbp_bus.proofs.Making.{ids_size}
-use Rattle.sbp_journal.specs.Run.{Moment, asked, said}
-use Rattle.sbp_journal.specs.Wire.{Terms, local_id, terms}
-use Rattle.sbp_laws.specs.Packets.{id_for}
-use Rattle.sbp_laws.specs.Targets.{Target, first_login, first_table, initiator_from, initiator_with, node_in, place_on, target_at}
-use Rattle.sbp_world.specs.FitTarget.{FitsOperation, Holds}
-use Rattle.sbp_world.specs.Making.{new_world, ready_logins}
-use Rattle.sbp_world.specs.Runs.{AreEntries, Entry, Run, after, beginning}
-use Rattle.sbp_world.specs.Settling.{after_all}
-use Rattle.sbp_world.specs.Telling.{initiator_of}
-use Rattle.sbp_world.specs.Wire.Lines.{AreLines}
-use Rattle.sbp_world.specs.Wire.Wires.{Stands}
-use Rattle.sbp_world.specs.Worlds.{WorldState, begun}
 use Rattle.sbp_world.proofs.FitTarget.Law.{fitting_law}
 use Rattle.sbp_world.proofs.Wire.Found.{known_has}
 use Rattle.sbp_world.proofs.Wire.Starts.{first_id}
@@ -37,7 +15,7 @@ use Rattle.sbp_world.proofs.Agents.Management.Holding.{Holding, good_of, known_i
 use Rattle.sbp_world.proofs.Agents.Management.Lines.{all_heard, opens}
 use Rattle.sbp_world.proofs.Agents.Management.Runs.{holds_after, no_repeats, not_reset}
 use Rattle.sbp_world.proofs.Agents.Management.Still.{hist}
-use Rattle.sbp_world.specs.Agents.Holders.{AreHeldAt, HoldersBetweenLaw, HoldersLaw, IsHeld, IsLiveOf, IsOf}
+use Rattle.sbp_world.specs.Agents.Holders.{IsOf}
 use Rattle.sbp_world.proofs.Agents.Peers.{Peer, found_leaves, is_peer, peer_of}
 use Rattle.sbp_world.proofs.Agents.Placed.{Has, IsHolder, Placed}
 use Rattle.sbp_world.proofs.Agents.Seats.{Seats, of_peer}

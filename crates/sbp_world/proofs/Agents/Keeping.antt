@@ -1,31 +1,15 @@
 -- Each call of a target changes its agents as its notes do.
-use Rattle.std.proofs.Common.{◌≡◌, ◌∙◌, refl, sym, ap, subst, ℕ, ◌==◌, nat_lt, is_some, Bool, true, false, cond, List, [], ◌∷◌, length, Option, Some, None, Result, Ok, Err}
-use Rattle.async_packet.specs.Labels.{LabelParts}
-use Rattle.async_packet.specs.Packet.{Packet, header_in, lock, lock_response, read_block, read_block_response, read_quadlet, read_quadlet_response, write_block, write_quadlet, write_response}
-use Rattle.label_table.specs.declared.reply.ReplyKind.{ReplyKind}
-use Rattle.label_table.specs.declared.reply.Stale.{Stale}
+use Rattle.sbp_world.proofs.Words.Std.{◌≡◌, ◌∙◌, refl, sym, ap, subst, ℕ, ◌==◌, nat_lt, is_some, Bool, true, false, cond, List, [], ◌∷◌, length, Option, Some, None, Result, Ok, Err}
+use Rattle.sbp_world.proofs.Words.Wire.{LabelParts, Packet, header_in, lock, lock_response, read_block, read_block_response, read_quadlet, read_quadlet_response, write_block, write_quadlet, write_response, ReplyKind, Stale, under_way, Finding, Layer, of_again, of_generation, of_grammar, of_label, of_request, of_response, expiring_step, judging_step, reply_kind, Judged, empty_outbox}
+use Rattle.sbp_world.proofs.Words.Target.{Disk, Told, demand_of, Purpose, after, alone, lets_expire, receives, sees, sets_key, ticks, NodeState, Scene, scene, TellsIn, answer_in, concluded, expire_agent, expired, expired_in, judged_scene, received, received_as, timed_out, with_layer, Whole, replied_to, whole, answered, is_barred, serve, source_in, Sent}
+use Rattle.sbp_world.proofs.Words.Initiator.{Answer, Expired, Refused}
+use Rattle.sbp_world.proofs.Words.Laws.{Agent}
+use Rattle.sbp_world.proofs.Words.World.{Agrees, Office, AgentsLaw, AreOf, Request, ToldAlike}
 use Rattle.label_table.specs.History as wire
-use Rattle.label_table.specs.History.{under_way}
-use Rattle.label_table.specs.Layer.{Finding, Layer, of_again, of_generation, of_grammar, of_label, of_request, of_response, expiring_step, judging_step}
-use Rattle.label_table.specs.Requests.{reply_kind}
-use Rattle.orb_layout.specs.Replies.{Answer, Expired, Refused}
-use Rattle.rbc_disk.specs.Disk.{Disk}
-use Rattle.rbc_disk.specs.Runs.{Told}
-use Rattle.sbp_journal.specs.declared.cause.Judged.{Judged}
 use Rattle.sbp_journal.specs.declared.cause.Judged.TheVariants as judgements
 use Rattle.sbp_journal.specs.declared.cause.Cause.TheVariants as ignored
-use Rattle.sbp_journal.specs.Outgoings.{empty_outbox}
-use Rattle.sbp_laws.specs.Targets.{Agent}
-use Rattle.target_base.specs.Addresses.{demand_of}
-use Rattle.sbp_target.specs.declared.purpose.Purpose.{Purpose}
 use Rattle.sbp_target.specs.declared.purpose.Purpose.TheVariants as purposes
-use Rattle.sbp_target.specs.Calls.{after, alone, lets_expire, receives, sees, sets_key, ticks}
-use Rattle.sbp_target.specs.Nodes.{NodeState, Scene, scene}
-use Rattle.sbp_target.specs.Receiving.{TellsIn, answer_in, concluded, expire_agent, expired, expired_in, judged_scene, received, received_as, timed_out, with_layer}
-use Rattle.sbp_target.specs.Replies.{Whole, replied_to, whole}
-use Rattle.sbp_target.specs.Serving.{answered, is_barred, request_step, serve}
-use Rattle.mgmt_agent.specs.Machine.{source_in}
-use Rattle.sbp_target.specs.declared.purpose.Sent.{Sent}
+use Rattle.sbp_target.specs.Serving.{request_step}
 use Rattle.sbp_target.proofs.Histories.Calling.{Good, peer_of}
 use Rattle.sbp_target.proofs.Histories.Rested.{some_that}
 use Rattle.sbp_world.proofs.Agents.Managed.{managed_behind}
@@ -33,13 +17,11 @@ use Rattle.sbp_target.proofs.Histories.Found.{IsFound, found}
 use Rattle.sbp_target.proofs.Histories.Primitives.{Known, closing_known, expiring_known, live_on}
 use Rattle.sbp_target.proofs.Histories.Seats.{Lives}
 use Rattle.sbp_target.proofs.Histories.Settled.{all_good, reaches}
-use Rattle.sbp_world.specs.Agents.Management.Offices.{Agrees, Office}
 use Rattle.sbp_world.specs.Agents.Management.Offices as office
 use Rattle.sbp_world.specs.Agents.Management.Calls as management
 use Rattle.sbp_world.proofs.Agents.Management.Calls.{barred_same, forgets_if, from_self}
 use Rattle.sbp_world.proofs.Agents.Management.Calm.{Calm, From, expires_agent, replies}
-use Rattle.sbp_world.specs.Agents.Calls.{AgentsLaw, AreOf, delivered, lapsed, requested}
-use Rattle.sbp_world.specs.Agents.Crews.{Request, ToldAlike}
+use Rattle.sbp_world.specs.Agents.Calls.{delivered, lapsed, requested}
 use Rattle.sbp_world.proofs.Agents.Calls.{Behind, behind_follow, lapses_behind, replies_behind}
 use Rattle.sbp_world.proofs.Agents.Mild.{IsGiven}
 use Rattle.sbp_world.proofs.Agents.Serves.{answer_behind, call_behind, demand_behind, second_behind, sight_behind}

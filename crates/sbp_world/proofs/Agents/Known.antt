@@ -1,47 +1,14 @@
 -- Over each turn of a world the bus knows the requests that the target has sent.
-use Rattle.std.proofs.Common.{arith, ◌≡◌, ◌∙◌, ◌⊎◌, refl, sym, ap, subst, inl, inr, ℕ, suc, ◌+◌, ◌<◌, ◌≤◌, ◌||◌, not, nat_lt, Bool, true, false, cond, List, [], ◌∷◌, length, Option, Some, None}
-use Rattle.std.specs.Prelude.{position, slice_index_or}
-use Rattle.std.proofs.lemmas.List.Quantifiers.{position-Some}
-use Rattle.async_packet.specs.Labels.{LabelParts}
-use Rattle.bus_transactions.specs.Bare.{bare}
-use Rattle.bus_transactions.specs.Wire.{Node, transaction}
+use Rattle.sbp_world.proofs.Words.Std.{arith, ◌≡◌, ◌∙◌, ◌⊎◌, refl, sym, ap, subst, inl, inr, ℕ, suc, ◌+◌, ◌<◌, ◌≤◌, ◌||◌, not, nat_lt, Bool, true, false, cond, List, [], ◌∷◌, length, Option, Some, None, position, slice_index_or, position-Some}
+use Rattle.sbp_world.proofs.Words.Wire.{LabelParts, bare, Node, transaction, ReplyKind, Layer, expiring_step, judging_step, state_for, StoredSent, found_sent, is_flying, Stored, deliver_step, Topology, BusRequest, GenerationsState, id_of, is_at, node_of, one_of_five, topology_at, judged_note, RequestsState, find, place_of, serial_at, request_of, Moment, Transaction, terms, Outgoing, OutboxState}
+use Rattle.sbp_world.proofs.Words.Target.{Disk, Held, Told, Purpose, alone, lets_expire, sees, ticks, NodeState, new_node, received, with_key}
+use Rattle.sbp_world.proofs.Words.World.{marked, whole_of, BytesTold, handed_out, told_seen, with_seen, told_all, WorldState, with_note, with_target, Stands, Has, Request, with_request, with_requests, AllLeave, AreKnown}
 use Rattle.bus_transactions.proofs.Facts.{asked_is, begun_asked}
 use Rattle.label_table.specs.declared.place.LabelState.TheVariants as states
-use Rattle.label_table.specs.declared.reply.ReplyKind.{ReplyKind}
 use Rattle.label_table.specs.History as wire
-use Rattle.label_table.specs.Layer.{Layer, expiring_step, judging_step}
-use Rattle.label_table.specs.Peers.{state_for}
 use Rattle.label_table.proofs.Calls.{after_kept}
 use Rattle.label_table.proofs.Told.{under_way_is}
-use Rattle.packet_store.specs.declared.sent.Sent.{Sent as StoredSent}
-use Rattle.packet_store.specs.Kept.{found_sent, is_flying}
-use Rattle.packet_store.specs.Stored.{Stored, deliver_step}
-use Rattle.rbc_disk.specs.Disk.{Disk}
-use Rattle.rbc_disk.specs.Held.{Held}
-use Rattle.rbc_disk.specs.Runs.{Told}
-use Rattle.sbp_bus.specs.declared.generations.Topology.{Topology}
-use Rattle.sbp_bus.specs.declared.requests.Request.{Request as BusRequest}
-use Rattle.sbp_bus.specs.Generations.{GenerationsState, id_of, is_at, node_of, one_of_five, topology_at}
-use Rattle.sbp_bus.specs.Packets.{judged_note}
-use Rattle.sbp_bus.specs.Requests.{RequestsState, find, place_of, serial_at}
-use Rattle.sbp_bus.specs.Sending.{request_of}
-use Rattle.sbp_journal.specs.Run.{Moment}
-use Rattle.sbp_journal.specs.Transactions.{Transaction}
-use Rattle.sbp_journal.specs.Wire.{terms}
 use Rattle.sbp_journal.specs.declared.note.Note.TheVariants as notes
-use Rattle.sbp_journal.specs.declared.outbox.Outgoing.{Outgoing}
-use Rattle.sbp_journal.specs.Outgoings.{OutboxState}
-use Rattle.sbp_target.specs.declared.purpose.Purpose.{Purpose}
-use Rattle.sbp_target.specs.Calls.{alone, lets_expire, sees, ticks}
-use Rattle.sbp_target.specs.Nodes.{NodeState}
-use Rattle.sbp_target.specs.Receiving.{new_node, received, with_key}
-use Rattle.sbp_world.specs.Delivering.{marked, whole_of}
-use Rattle.sbp_world.specs.FitTarget.{BytesTold}
-use Rattle.sbp_world.specs.Handing.{handed_out}
-use Rattle.sbp_world.specs.Nodes.{told_seen, with_seen}
-use Rattle.sbp_world.specs.Telling.{told_all}
-use Rattle.sbp_world.specs.Worlds.{WorldState, with_note, with_target}
-use Rattle.sbp_world.specs.Wire.Wires.{Stands}
 use Rattle.sbp_world.proofs.FitTarget.Law.{fitting_law}
 use Rattle.sbp_world.proofs.Wire.Alike.{told_alike}
 use Rattle.sbp_world.proofs.Wire.Bus.{holds}
@@ -50,9 +17,6 @@ use Rattle.sbp_world.proofs.Wire.Forgets.{seen_stays, ticked_stays}
 use Rattle.sbp_world.proofs.Wire.Holding.{KnownTo, known_small, target_has}
 use Rattle.sbp_world.proofs.Wire.Nodes.{handed_alike, marked_alike}
 use Rattle.sbp_world.proofs.Agents.Management.Holding.{Holding, ours}
-use Rattle.sbp_world.specs.Agents.Crews.{Has, Request, with_request, with_requests}
-use Rattle.sbp_world.specs.Agents.Hands.{AllLeave}
-use Rattle.sbp_world.specs.Agents.Serials.{AreKnown}
 use Rattle.sbp_world.proofs.Agents.Entries.{AllWritten, Placed, Sized, Stays, all_placed, all_told_requests, all_written, found_here, found_positive, own_stays, quiet_requests}
 use Rattle.sbp_world.proofs.Agents.Fresh.{Apart, Started, delivery_apart, expiry_apart, lives_of, one_started, one_waited}
 use Rattle.sbp_world.proofs.Agents.Leaving.{packets_leave, source_known}

@@ -1,29 +1,12 @@
 -- The last request under a label that waits is the packet that left under it, whichever calls led to the layer.
-use Rattle.std.proofs.Common.{◌≡◌, ◌≢◌, ◌∙◌, ◌⊎◌, refl, sym, ap, subst, inl, inr, ℕ, ◌&&◌, nat_eq, nat_lt, Bool, true, false, cond, List, [], ◌∷◌, ◌++◌, Option, Some, None, Result, Ok, Err, arith}
-use Rattle.std.proofs.lemmas.Bool.Decides.{nat_tests}
-use Rattle.async_packet.specs.declared.fault.PacketFault.{PacketFault}
-use Rattle.async_packet.specs.Labels.{LabelParts}
-use Rattle.async_packet.specs.Packet.{Packet, header_in}
-use Rattle.async_packet.specs.Reading.{reading}
-use Rattle.bus_transactions.specs.Bare.{bare, bare_after, bare_finding, bare_result, same}
-use Rattle.bus_transactions.specs.Wire.{Node}
+use Rattle.sbp_world.proofs.Words.Std.{◌≡◌, ◌≢◌, ◌∙◌, ◌⊎◌, refl, sym, ap, subst, inl, inr, ℕ, ◌&&◌, nat_eq, nat_lt, Bool, true, false, cond, List, [], ◌∷◌, ◌++◌, Option, Some, None, Result, Ok, Err, arith, nat_tests}
+use Rattle.sbp_world.proofs.Words.Wire.{PacketFault, LabelParts, Packet, header_in, reading, bare, bare_after, bare_finding, bare_result, same, Node, Asked, ReplyKind, Stale, Body, AreTold, Life, and_before, began, ended, forgotten, not_begun, over, told_by_asking, under_way, Row, by_again, by_generation, by_grammar, by_label, by_request, by_response, row_of, Finding, Layer, answering_step, asking_step, closed_by, closing_step, disowning_step, expiring_step, facts_of, judged_by, judging_step, new_layer, responded, seeing_step, seen_in_generation, unlabelled, last_for, kind_of, reply_kind, Outgoing}
+use Rattle.sbp_world.proofs.Words.Target.{Purpose, layer_after, packets_of, request, response, with_asked}
 use Rattle.bus_transactions.proofs.Bares.{takes_steps}
 use Rattle.bus_transactions.proofs.Places.{Places, cleared_places, new_places}
 use Rattle.bus_transactions.proofs.Steps as steps
-use Rattle.label_table.specs.declared.judgement.Asked.{Asked}
-use Rattle.label_table.specs.declared.reply.ReplyKind.{ReplyKind}
-use Rattle.label_table.specs.declared.reply.Stale.{Stale}
-use Rattle.label_table.specs.Bodies.{Body}
 use Rattle.label_table.specs.History as wire
-use Rattle.label_table.specs.History.{AreTold, Life, and_before, began, ended, forgotten, not_begun, over, told_by_asking, under_way}
-use Rattle.label_table.specs.Judging.{Row, by_again, by_generation, by_grammar, by_label, by_request, by_response, row_of}
-use Rattle.label_table.specs.Layer.{Finding, Layer, answering_step, asking_step, closed_by, closing_step, disowning_step, expiring_step, facts_of, judged_by, judging_step, new_layer, responded, seeing_step, seen_in_generation, unlabelled}
-use Rattle.label_table.specs.Peers.{last_for}
-use Rattle.label_table.specs.Requests.{kind_of, reply_kind}
 use Rattle.label_table.proofs.Calls.{told_law}
-use Rattle.sbp_journal.specs.declared.outbox.Outgoing.{Outgoing}
-use Rattle.sbp_target.specs.declared.purpose.Purpose.{Purpose}
-use Rattle.sbp_target.specs.Histories.Layers.{layer_after, packets_of, request, response, with_asked}
 use Rattle.sbp_target.proofs.Histories.Made.{same_after}
 use Rattle.sbp_target.proofs.Histories.Seats.{same_self}
 use Rattle.sbp_world.proofs.Agents.Fresh.{Started, lives_of, one_started, one_waited}

@@ -1,41 +1,14 @@
 -- What the target hands out leaves.
-use Rattle.std.proofs.Common.{arith, ◌≡◌, ◌∙◌, refl, sym, ap, subst, ℕ, ◌<◌, ◌≤◌, not, is_some, true, false, List, [], ◌∷◌, ◌++◌, length, Option, Some, None, Result, Ok, Err}
-use Rattle.async_packet.specs.Canon.{IsValid, canon}
-use Rattle.async_packet.specs.Labels.{LabelParts}
-use Rattle.async_packet.specs.Packet.{Packet, header_in}
-use Rattle.async_packet.specs.Reading.{reading}
+use Rattle.sbp_world.proofs.Words.Std.{arith, ◌≡◌, ◌∙◌, refl, sym, ap, subst, ℕ, ◌<◌, ◌≤◌, not, is_some, true, false, List, [], ◌∷◌, ◌++◌, length, Option, Some, None, Result, Ok, Err}
+use Rattle.sbp_world.proofs.Words.Wire.{IsValid, canon, LabelParts, Packet, header_in, reading, AreAsks, IsAnswering, IsAsking, IsDelivery, IsExpiry, layer_after, requests_of, request_to, with_asked, Node, Reply, Asked, ReplyKind, Stale, Body, header_to, request_with, response_to, Finding, Layer, answering_step, asking_step, expiring_step, judging_step, of_again, of_generation, of_grammar, of_label, of_request, of_response, IsRequestOf, Sent, found_sent, GenerationsState, node_of, topology_at, Moment, Kind, part_in, request, terms, Judged, Outgoing}
+use Rattle.sbp_world.proofs.Words.Target.{Disk, Held, Told, Purpose, alone, lets_expire, received}
+use Rattle.sbp_world.proofs.Words.World.{whole_of, BytesTold, WorldState, Stands, AllLeave, Leaves, PacketsLeave}
 use Rattle.async_packet.proofs.RoundTrip.{canon_spells}
 use Rattle.async_packet.proofs.Spelled.{reading_spelled}
-use Rattle.bus_transactions.specs.Steps.{AreAsks, IsAnswering, IsAsking, IsDelivery, IsExpiry, layer_after, requests_of, request_to, with_asked}
-use Rattle.bus_transactions.specs.Wire.{Node, Reply}
 use Rattle.bus_transactions.proofs.FitJudged.{IsFoundAs, found_as}
 use Rattle.bus_transactions.proofs.MoveAnswer.{answer_packet}
 use Rattle.bus_transactions.proofs.PacketParts.{PartOf, asks, part_case, part_read, replies}
-use Rattle.label_table.specs.declared.judgement.Asked.{Asked}
-use Rattle.label_table.specs.declared.reply.ReplyKind.{ReplyKind}
-use Rattle.label_table.specs.declared.reply.Stale.{Stale}
-use Rattle.label_table.specs.Bodies.{Body, header_to, request_with, response_to}
 use Rattle.label_table.specs.History as wire
-use Rattle.label_table.specs.Layer.{Finding, Layer, answering_step, asking_step, expiring_step, judging_step, of_again, of_generation, of_grammar, of_label, of_request, of_response}
-use Rattle.label_table.specs.Requests.{IsRequestOf}
-use Rattle.packet_store.specs.declared.sent.Sent.{Sent}
-use Rattle.packet_store.specs.Kept.{found_sent}
-use Rattle.rbc_disk.specs.Disk.{Disk}
-use Rattle.rbc_disk.specs.Held.{Held}
-use Rattle.rbc_disk.specs.Runs.{Told}
-use Rattle.sbp_bus.specs.Generations.{GenerationsState, node_of, topology_at}
-use Rattle.sbp_journal.specs.Run.{Moment}
-use Rattle.sbp_journal.specs.Transactions.{Kind, part_in, request}
-use Rattle.sbp_journal.specs.Wire.{terms}
-use Rattle.sbp_journal.specs.declared.cause.Judged.{Judged}
-use Rattle.sbp_journal.specs.declared.outbox.Outgoing.{Outgoing}
-use Rattle.sbp_target.specs.declared.purpose.Purpose.{Purpose}
-use Rattle.sbp_target.specs.Calls.{alone, lets_expire}
-use Rattle.sbp_target.specs.Receiving.{received}
-use Rattle.sbp_world.specs.Delivering.{whole_of}
-use Rattle.sbp_world.specs.FitTarget.{BytesTold}
-use Rattle.sbp_world.specs.Worlds.{WorldState}
-use Rattle.sbp_world.specs.Wire.Wires.{Stands}
 use Rattle.sbp_world.proofs.FitTarget.Law.{fitting_law}
 use Rattle.sbp_world.proofs.Wire.Found.{IsKnown, has_known, known_has, node_found}
 use Rattle.sbp_world.proofs.Wire.Holding.{KnownTo, known_small, target_has}
@@ -44,8 +17,7 @@ use Rattle.sbp_target.proofs.Histories.Primitives.{Known}
 use Rattle.sbp_world.proofs.Agents.Management.Holding.{Holding, good_of, is_of, known_id, ours, target_generation}
 use Rattle.sbp_world.proofs.Agents.Management.Requests.{asked_labelled, asks_valid}
 use Rattle.sbp_world.proofs.Agents.Management.Still.{hist}
-use Rattle.sbp_world.specs.Agents.Hands.{AllLeave, IsResponse, Leaves}
-use Rattle.sbp_world.specs.Agents.Leaving.{PacketsLeave}
+use Rattle.sbp_world.specs.Agents.Hands.{IsResponse}
 use Rattle.sbp_world.proofs.Agents.Writes.{asked_writes}
 
 leave_more : (g : GenerationsState) (packets : List Outgoing) (packet : Outgoing) → AllLeave g packets → Leaves g packet → AllLeave g (packets ++ packet ∷ [])

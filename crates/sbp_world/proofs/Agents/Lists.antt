@@ -1,26 +1,17 @@
 -- The agents of all places in a turn: one may ask for something, and all others are at rest.
-use Rattle.std.proofs.Common.{arith, ◌≡◌, ◌≢◌, ◌∙◌, refl, sym, ap, ℕ, zero, suc, ◌+◌, ◌<◌, ◌||◌, not, nat_eq, nat_lt, Bool, true, false, cond, List, [], ◌∷◌, ◌++◌, length, map, Option, Some, None}
-use Rattle.std.specs.Prelude.{position, slice_set}
-use Rattle.std.specs.List.{position_or_len}
-use Rattle.std.proofs.Math.ListN.{length-set}
-use Rattle.std.proofs.lemmas.Bool.Decides.{nat_tests}
-use Rattle.std.proofs.lemmas.List.{ext_get_or, get_or-map, length-map}
+use Rattle.sbp_world.proofs.Words.Std.{arith, ◌≡◌, ◌≢◌, ◌∙◌, refl, sym, ap, ℕ, zero, suc, ◌+◌, ◌<◌, ◌||◌, not, nat_eq, nat_lt, Bool, true, false, cond, List, [], ◌∷◌, ◌++◌, length, map, Option, Some, None, position, slice_set, position_or_len, length-set, nat_tests, ext_get_or, length-map}
+use Rattle.sbp_world.proofs.Words.Wire.{LabelParts, is_write, Outgoing, Side}
+use Rattle.sbp_world.proofs.Words.Target.{Main, lost_step}
+use Rattle.sbp_world.proofs.Words.Initiator.{Ask, Nothing}
+use Rattle.sbp_world.proofs.Words.Laws.{Agent, agent_over, is_nothing, main_lost, moved, new_agent, sends_of, wants, wants_it}
+use Rattle.sbp_world.proofs.Words.World.{Office, agent_in, by_packet, by_packets, crew_over, crew_packet, crew_packets, crew_side, crew_sides, sent_among}
+use Rattle.std.proofs.lemmas.List.{get_or-map}
 use Rattle.label_table.proofs.Owned.{set_at}
-use Rattle.async_packet.specs.Labels.{LabelParts}
-use Rattle.label_table.specs.Requests.{is_write}
-use Rattle.orb_layout.specs.declared.ask.Ask.{Ask}
-use Rattle.orb_layout.specs.declared.ask.Ask.TheVariants.{Nothing}
 use Rattle.orb_layout.specs.declared.ask.FailCause.TheVariants as causes
-use Rattle.command_agent.specs.declared.step.Which.TheVariants.{Main}
-use Rattle.command_agent.specs.Steps.{lost_step}
-use Rattle.sbp_journal.specs.declared.outbox.Outgoing.{Outgoing}
-use Rattle.sbp_journal.specs.declared.side.Side.{Side}
 use Rattle.sbp_journal.specs.declared.side.Side.TheVariants as sides
-use Rattle.sbp_laws.specs.Targets.{Agent, agent_over, is_nothing, main_lost, moved, new_agent, sends_of, wants, wants_it}
-use Rattle.sbp_world.specs.Agents.Management.Offices.{Office}
 use Rattle.sbp_world.specs.Agents.Management.Offices as office
 use Rattle.sbp_world.proofs.Agents.Management.Calm.{AreQuiet, IsQuiet}
-use Rattle.sbp_world.specs.Agents.Crews.{agent_in, by_packet, by_packets, by_side, by_sides, crew_over, crew_packet, crew_packets, crew_side, crew_sides, sent_among}
+use Rattle.sbp_world.specs.Agents.Crews.{by_side, by_sides}
 use Rattle.sbp_world.proofs.Agents.Follows.{over_idle}
 use Rattle.sbp_world.proofs.Agents.Management.Places.{other_id}
 use Rattle.sbp_world.proofs.Common.{itself as same_id}

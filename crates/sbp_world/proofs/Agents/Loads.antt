@@ -1,21 +1,9 @@
 -- A run that brings a disc into the tray has no answer.
-use Rattle.std.proofs.Common.{arith, ◌≡◌, ◌∙◌, refl, sym, ap, ℕ, ◌&&◌, nat_lt, not, Bool, true, false, cond, List, length, Option, Some, None, Result, Ok, Err}
-use Rattle.std.specs.Prelude.{slice_set}
-use Rattle.std.proofs.lemmas.Bool.Decides.{nat_tests}
-use Rattle.std.proofs.lemmas.Grind.{common_steps}
+use Rattle.sbp_world.proofs.Words.Std.{arith, ◌≡◌, ◌∙◌, refl, sym, ap, ℕ, ◌&&◌, nat_lt, not, Bool, true, false, cond, List, length, Option, Some, None, Result, Ok, Err, slice_set, nat_tests, common_steps}
+use Rattle.sbp_world.proofs.Words.Target.{Sense, Disk, disk_at, answer_length, request_of, answer_length_by, answered_length, check_in, left_by, medium_after_good, medium_ended, PlainDisk, Outcome, Request, Machine, MayTell, came}
 use Rattle.rbc_command.specs.declared.command.Command.TheVariants as commands
-use Rattle.rbc_command.specs.declared.sense.Sense.{Sense}
-use Rattle.rbc_disk.specs.Disk.{Disk, disk_at}
-use Rattle.rbc_disk.specs.Requests.{answer_length, request_of}
-use Rattle.rbc_disk.specs.Runs.{answer_length_by, answered_length, check_in, left_by, medium_after_good, medium_ended}
-use Rattle.rbc_disk.specs.Units.{PlainDisk}
-use Rattle.rbc_disk.specs.declared.command.Outcome.{Outcome}
 use Rattle.rbc_disk.specs.declared.command.Outcome.TheVariants as outcomes
-use Rattle.rbc_disk.specs.declared.request.Request.{Request}
 use Rattle.rbc_disk.specs.declared.request.Request.TheVariants as requests
-use Rattle.command_agent.specs.Machine.{Machine}
-use Rattle.command_agent.specs.Runs.{MayTell}
-use Rattle.sbp_target.specs.Replies.{came}
 
 pub came_not : (d : Disk) → came d d ≡ true → ⊥
 came_not d e = by d.is_present e

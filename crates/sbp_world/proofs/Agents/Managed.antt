@@ -1,52 +1,24 @@
 -- A turn of the management operation changes the agents as its notes do.
-use Rattle.std.proofs.Common.{arith, ◌≡◌, ◌≢◌, ◌∙◌, refl, sym, ap, subst, ℕ, zero, suc, ◌+◌, ◌<◌, nat_eq, nat_lt, Bool, true, false, cond, List, [], ◌∷◌, length, map, Option, Some, None}
-use Rattle.std.specs.Prelude.{slice_set}
-use Rattle.std.proofs.Math.ListN.{length-set}
-use Rattle.std.proofs.lemmas.Bool.Decides.{nat_tests}
-use Rattle.std.proofs.lemmas.Bool.{false≢true, true≢false}
-use Rattle.label_table.specs.Layer.{Layer}
+use Rattle.sbp_world.proofs.Words.Std.{arith, ◌≡◌, ◌≢◌, ◌∙◌, refl, sym, ap, subst, ℕ, zero, suc, ◌+◌, ◌<◌, nat_eq, nat_lt, Bool, true, false, cond, List, [], ◌∷◌, length, map, Option, Some, None, slice_set, length-set, nat_tests, false≢true, true≢false}
+use Rattle.sbp_world.proofs.Words.Wire.{Layer, CutCause, empty_outbox, function_word, login_if}
+use Rattle.sbp_world.proofs.Words.Target.{Login, IsTable, Table, is_live, place_at, Decision, Effect, ManagerStep, PlaceBelow, Phase, is_ahead, is_sent, state_in, abort_step, is_reset, reset_step, writes_status, is_of_unit, Desk, Purpose, cut, new_desk, ask_manager, clear_one, cut_placed, node_decided, effect_by, failed_by, manage, managed_in, managed_with, place_in, tell_left, with_manager, NodeState, Scene, desk_at, login_at, scene, with_desk, clear_from, clear_unit, cut_all}
+use Rattle.sbp_world.proofs.Words.Initiator.{Answer}
+use Rattle.sbp_world.proofs.Words.Laws.{Agent, cut_agent, cut_where, decided_by, keep_decided, new_agent, on_unit}
+use Rattle.sbp_world.proofs.Words.World.{Agrees, Office, replied, stepped, answers, has_list, moves_data, AreOf, affected, managed, Request, agent_in, crew_over, crew_packets, crew_side, crew_sides, hired, with_requests}
 use Rattle.label_table.proofs.Owned.{set_at}
-use Rattle.login_table.specs.declared.login.Login.{Login}
-use Rattle.login_table.specs.Sound.{IsTable}
-use Rattle.login_table.specs.Table.{Table, is_live, place_at}
-use Rattle.mgmt_agent.specs.declared.decision.Decision.{Decision}
-use Rattle.mgmt_agent.specs.declared.decision.Effect.{Effect}
 use Rattle.mgmt_agent.specs.declared.decision.Effect.TheVariants as effects
-use Rattle.mgmt_agent.specs.declared.decision.ManagerStep.{ManagerStep}
-use Rattle.mgmt_agent.specs.Effects.{PlaceBelow}
 use Rattle.mgmt_agent.specs.Machine as management
 use Rattle.mgmt_agent.proofs.Places.{places_of_effects}
-use Rattle.orb_layout.specs.Replies.{Answer}
-use Rattle.command_agent.specs.declared.phase.Phase.{Phase}
 use Rattle.command_agent.specs.declared.phase.Phase.TheVariants as phases
-use Rattle.command_agent.specs.Machine.{is_ahead, is_sent, state_in}
-use Rattle.command_agent.specs.Steps.{abort_step, is_reset, reset_step}
-use Rattle.command_agent.specs.Tasks.{writes_status}
-use Rattle.sbp_journal.specs.declared.cause.CutCause.{CutCause}
 use Rattle.sbp_journal.specs.declared.cause.CutCause.TheVariants as cuts
 use Rattle.sbp_journal.specs.declared.side.Side.TheVariants as sides
-use Rattle.sbp_journal.specs.Outgoings.{empty_outbox}
-use Rattle.sbp_laws.specs.Targets.{Agent, cut_agent, cut_where, decided_by, keep_decided, new_agent, on_unit}
-use Rattle.sbp_bus.specs.Words.{function_word, login_if}
-use Rattle.target_base.specs.Places.{is_of_unit}
-use Rattle.sbp_target.specs.declared.desk.Desk.{Desk}
-use Rattle.sbp_target.specs.declared.purpose.Purpose.{Purpose}
-use Rattle.sbp_target.specs.Agents.{cut}
-use Rattle.sbp_target.specs.Desks.{new_desk}
-use Rattle.sbp_target.specs.Management.{ask_manager, clear_one, cut_placed, decided_by as node_decided, effect_by, failed_by, manage, managed_in, managed_with, place_in, tell_left, with_manager}
-use Rattle.sbp_target.specs.Nodes.{NodeState, Scene, desk_at, login_at, scene, with_desk}
-use Rattle.sbp_target.specs.Units.{clear_from, clear_unit, cut_all}
 use Rattle.sbp_target.proofs.Histories.Calling.{Good, not_eight}
 use Rattle.sbp_target.proofs.Histories.Primitives.{Known}
 use Rattle.sbp_target.proofs.Histories.Seats.{Lives, split}
 use Rattle.sbp_target.proofs.Histories.Stepped.{is_bare}
 use Rattle.sbp_world.proofs.Agents.Management.Calm.{Calm, clears_from, clears_one, cuts_all, cuts_at}
 use Rattle.sbp_world.proofs.Agents.Management.Deciding.{left_by}
-use Rattle.sbp_world.specs.Agents.Management.Offices.{Agrees, Office, replied, stepped}
 use Rattle.sbp_world.specs.Agents.Management.Offices as office
-use Rattle.sbp_world.specs.Agents.Alike.{answers, has_list, moves_data}
-use Rattle.sbp_world.specs.Agents.Calls.{AreOf, affected, managed}
-use Rattle.sbp_world.specs.Agents.Crews.{Request, agent_in, crew_over, crew_packets, crew_side, crew_sides, hired, with_requests}
 use Rattle.sbp_world.proofs.Agents.Calls.{AllSettled, Behind, IsUnmoved, TermsCut, all_terms_cut, cut_all_settled, one_term_cut, same_desks, settled_idle, settled_more, settled_of, unmoved_settled}
 use Rattle.sbp_world.proofs.Agents.Cuts.{IsKept, all_cut, kept_self, place_cut}
 use Rattle.sbp_world.proofs.Agents.Serials.{Paired, one_none, requests_within}

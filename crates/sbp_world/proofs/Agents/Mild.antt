@@ -1,39 +1,18 @@
 -- What a step of an agent does beside its transactions: no reply makes it dead for want of a label, a read ahead is a read, and a command that ends
 -- with an empty answer is followed by its status.
-use Rattle.std.proofs.Common.{◌≡◌, ◌∙◌, refl, sym, ap, ℕ, ◌+◌, ◌*◌, ◌==◌, Bool, true, false, cond, List, ◌++◌, length, Option, Some, None, Result, Ok, Err}
-use Rattle.std.proofs.lemmas.Option.{none-some}
-use Rattle.orb_layout.specs.declared.ask.Ask.TheVariants.{Read}
-use Rattle.orb_layout.specs.declared.ask.FailCause.{FailCause}
+use Rattle.sbp_world.proofs.Words.Std.{◌≡◌, ◌∙◌, refl, sym, ap, ℕ, ◌+◌, ◌*◌, ◌==◌, Bool, true, false, cond, List, ◌++◌, length, Option, Some, None, Result, Ok, Err, none-some}
+use Rattle.sbp_world.proofs.Words.Target.{Need, Outcome, PlainDisk, Told, answered_length, need_of, Phase, ReadAhead, AgentStep, Move, Which, Ahead, Main, Machine, chunk_of, has_present, is_ahead, plan_of, death_by, reads_table, verdict, advanced, ahead_of, ahead_read, ahead_step, answer_chunk, asks, check_step, checked, chunk_written, data_grown, data_read, data_step, elements_read, end_step, follow_step, judged, next_read, orb_read, quiet, ran_as, reply_step, reread_step, sent, served, table_read, told_or, turn_step, turned, unread_buffer, wait_step, with_ahead, with_outcome}
+use Rattle.sbp_world.proofs.Words.Initiator.{Read, FailCause, OrbPointer, Null, At, StatusKind, command_orb, pointer_at, Answer, Done, Expired, NoLabel, Payload, Refused, payload_of, write_failure, PageFault, elements_of, first_fault}
+use Rattle.sbp_world.proofs.Words.Laws.{wants}
+use Rattle.sbp_world.proofs.Words.World.{has_list}
 use Rattle.orb_layout.specs.declared.ask.FailCause.TheVariants as causes
-use Rattle.orb_layout.specs.declared.pointer.OrbPointer.{OrbPointer}
-use Rattle.orb_layout.specs.declared.pointer.OrbPointer.TheVariants.{Null, At}
-use Rattle.orb_layout.specs.declared.status.StatusKind.{StatusKind}
 use Rattle.orb_layout.specs.declared.status.StatusKind.TheVariants as kinds
-use Rattle.orb_layout.specs.CommandOrbs.{command_orb}
-use Rattle.orb_layout.specs.Pointers.{pointer_at}
-use Rattle.orb_layout.specs.Replies.{Answer, Done, Expired, NoLabel, Payload, Refused, payload_of, write_failure}
-use Rattle.page_table.specs.declared.fault.PageFault.{PageFault}
-use Rattle.page_table.specs.Elements.{elements_of, first_fault}
-use Rattle.rbc_disk.specs.declared.command.Need.{Need}
 use Rattle.rbc_disk.specs.declared.command.Need.TheVariants as needs
-use Rattle.rbc_disk.specs.declared.command.Outcome.{Outcome}
 use Rattle.rbc_disk.specs.declared.command.Outcome.TheVariants as outcomes
-use Rattle.rbc_disk.specs.Units.{PlainDisk}
-use Rattle.rbc_disk.specs.Runs.{Told, answered_length, need_of}
-use Rattle.command_agent.specs.declared.phase.Phase.{Phase}
 use Rattle.command_agent.specs.declared.phase.Phase.TheVariants as phases
-use Rattle.command_agent.specs.declared.phase.ReadAhead.{ReadAhead}
 use Rattle.command_agent.specs.declared.phase.ReadAhead.TheVariants as aheads
-use Rattle.command_agent.specs.declared.step.AgentStep.{AgentStep}
-use Rattle.command_agent.specs.declared.step.Move.{Move}
 use Rattle.command_agent.specs.declared.step.Move.TheVariants as moves
-use Rattle.command_agent.specs.declared.step.Which.{Which}
-use Rattle.command_agent.specs.declared.step.Which.TheVariants.{Ahead, Main}
-use Rattle.command_agent.specs.Machine.{Machine, chunk_of, has_present, is_ahead, plan_of}
-use Rattle.sbp_world.specs.Agents.Alike.{has_list}
-use Rattle.command_agent.specs.Checks.{death_by, reads_table, verdict}
-use Rattle.command_agent.specs.Steps.{advanced, ahead_of, ahead_read, ahead_step, answer_chunk, answer_step, asks, check_step, checked, chunk_written, data_grown, data_read, data_step, elements_read, end_step, follow_step, judged, next_read, orb_read, quiet, ran_as, replied, reply_step, reread_step, sent, served, status_written, table_read, told_or, turn_step, turned, unread_buffer, wait_step, with_ahead, with_outcome}
-use Rattle.sbp_laws.specs.Targets.{wants}
+use Rattle.command_agent.specs.Steps.{answer_step, replied, status_written}
 use Rattle.sbp_world.proofs.Agents.Walk.{IsOther}
 
 pub record Mild (s : AgentStep × Machine) : Type 0 where

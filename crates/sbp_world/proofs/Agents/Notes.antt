@@ -1,46 +1,21 @@
 -- What the notes of a history make of the agents of its terms.
-use Rattle.std.proofs.Common.{arith, ◌≡◌, ◌∙◌, refl, sym, ap, subst, ℕ, ◌/◌, ◌^◌, ◌==◌, ◌<◌, Bool, true, false, cond, List, [], ◌∷◌, length, map, replicate, is_some, is_none, Option, Some, None}
-use Rattle.std.specs.Prelude.{position, slice_index_or, slice_set}
-use Rattle.std.proofs.lemmas.Bool.Decides.{nat_tests}
-use Rattle.std.proofs.lemmas.Grind.{common_steps}
-use Rattle.orb_layout.specs.declared.ask.Ask.TheVariants.{Nothing}
-use Rattle.orb_layout.specs.declared.ask.FailCause.{FailCause}
+use Rattle.sbp_world.proofs.Words.Std.{arith, ◌≡◌, ◌∙◌, refl, sym, ap, subst, ℕ, ◌/◌, ◌^◌, ◌==◌, ◌<◌, Bool, true, false, cond, List, [], ◌∷◌, length, map, replicate, is_some, Option, Some, None, position, slice_index_or, slice_set, nat_tests, common_steps, quad}
+use Rattle.sbp_world.proofs.Words.Wire.{Access, orb_pointer, Moment, Kind, Part, part_of, request, Terms, Note, FunctionWord}
+use Rattle.sbp_world.proofs.Words.Target.{Disk, PlainDisk, Table, Effect, ManagerStep, AgentState, Machine, state_in, Desk, new_desk, desk_at, new_node, point_in, point_step, reply_step}
+use Rattle.sbp_world.proofs.Words.Initiator.{Nothing, FailCause, At, Null, offset_at, pointer_at, Answer}
+use Rattle.sbp_world.proofs.Words.Laws.{access_in_bytes, Agent, Decided, Reply, Target, agent_at, closed, cut_where, effect_on, entered_by, enters_in, going_on, is_own_run, is_write_access, main_lost, managed_by, manager_step, moved, new_agent, new_target, on_unit, plain_for, pointed_by, points, ran_on, register_got, reset_seen, sent_as, sent_for, taken_on, target_by, told_by, told_in, untold_by, wants, wants_it, with_agent, with_untold}
+use Rattle.sbp_world.proofs.Words.World.{Office, office_of, AreOf, accessed, affected, changed, IsOf, address, agent_in, answered, crew_over, hired, hired_by, hired_in, sent_among, IsBehind, NotesLaw}
+use Rattle.std.proofs.Common.{is_none}
 use Rattle.orb_layout.specs.declared.ask.FailCause.TheVariants as causes
-use Rattle.rbc_disk.specs.Disk.{Disk}
-use Rattle.rbc_disk.specs.Units.{PlainDisk}
-use Rattle.login_table.specs.Table.{Table}
-use Rattle.mgmt_agent.specs.declared.decision.Effect.{Effect}
 use Rattle.mgmt_agent.specs.declared.decision.Effect.TheVariants as effects
-use Rattle.mgmt_agent.specs.declared.decision.ManagerStep.{ManagerStep}
 use Rattle.mgmt_agent.specs.Machine as manager
-use Rattle.orb_layout.specs.declared.pointer.OrbPointer.TheVariants.{At, Null}
-use Rattle.orb_layout.specs.Pointers.{offset_at, pointer_at}
-use Rattle.orb_layout.specs.Replies.{Answer}
-use Rattle.sbp_base.specs.Quadlets.{quad}
-use Rattle.command_agent.specs.declared.step.AgentState.{AgentState}
 use Rattle.command_agent.specs.declared.step.AgentState.TheVariants as states
-use Rattle.command_agent.specs.Machine.{Machine, state_in}
-use Rattle.sbp_journal.specs.Addresses.{Access, orb_pointer}
 use Rattle.target_base.specs.declared.address.Access.TheVariants as accesses
-use Rattle.sbp_journal.specs.Run.{Moment}
-use Rattle.sbp_journal.specs.Transactions.{Kind, Part, part_of, request}
-use Rattle.sbp_journal.specs.Wire.{Terms}
-use Rattle.sbp_journal.specs.declared.note.Note.{Note}
 use Rattle.sbp_journal.specs.declared.note.Note.TheVariants as notes
-use Rattle.sbp_journal.specs.declared.operation.FunctionWord.{FunctionWord}
 use Rattle.sbp_journal.specs.declared.operation.FunctionWord.TheVariants as functions
-use Rattle.sbp_laws.specs.Packets.{access_in_bytes}
-use Rattle.sbp_laws.specs.Targets.{Agent, Decided, Reply, Target, agent_at, closed, cut_where, effect_on, entered_by, enters_in, going_on, is_own_run, is_write_access, main_lost, managed_by, manager_step, moved, new_agent, new_target, on_unit, plain_for, pointed_by, points, ran_on, register_got, reset_seen, sent_as, sent_for, taken_on, target_by, told_by, told_in, untold_by, wants, wants_it, with_agent, with_untold}
 use Rattle.sbp_laws.proofs.Going.{going_still, run_still, taken_still}
-use Rattle.sbp_target.specs.declared.desk.Desk.{Desk}
-use Rattle.sbp_target.specs.Desks.{new_desk}
-use Rattle.sbp_target.specs.Nodes.{desk_at}
-use Rattle.sbp_target.specs.Receiving.{new_node}
-use Rattle.command_agent.specs.Steps.{point_in, point_step, reply_step}
-use Rattle.sbp_world.specs.Agents.Management.Offices.{Office, office_of}
-use Rattle.sbp_world.specs.Agents.Calls.{AreOf, accessed, affected, changed, seen}
-use Rattle.sbp_world.specs.Agents.Crews.{IsOf, address, agent_in, answered, crew_over, hired, hired_by, hired_in, sent_among}
-use Rattle.sbp_world.specs.Agents.Notes.{IsBehind, NotesLaw, by_note}
+use Rattle.sbp_world.specs.Agents.Calls.{seen}
+use Rattle.sbp_world.specs.Agents.Notes.{by_note}
 use Rattle.sbp_world.proofs.Agents.Lists.{at_own, set_twice}
 
 -- ---- no reply waits

@@ -1,37 +1,13 @@
 -- The target asks initiators alone, and no packet goes from it to itself.
-use Rattle.std.proofs.Common.{arith, ◌≡◌, ◌∙◌, refl, sym, ap, subst, ℕ, suc, ◌+◌, ◌-◌, ◌&&◌, ◌||◌, not, nat_eq, nat_lt, Bool, true, false, cond, List, [], ◌∷◌, ◌++◌, Option, Some, None, Result, Ok, Err}
-use Rattle.std.specs.Prelude.{position}
-use Rattle.std.specs.List.{filter}
-use Rattle.std.proofs.lemmas.Bool.Decides.{nat_tests}
-use Rattle.std.proofs.lemmas.List.Quantifiers.{position-Some}
-use Rattle.std.proofs.lemmas.Bool.{false≢true}
-use Rattle.async_packet.specs.Labels.{LabelParts}
-use Rattle.async_packet.specs.Packet.{Packet, header_in}
-use Rattle.async_packet.specs.Reading.{reading}
-use Rattle.bus_transactions.specs.Steps.{AreAsks, IsAnswering, IsAsking, IsDelivery, IsExpiry, answered_by, layer_after, request_to, requests_of, with_asked}
-use Rattle.bus_transactions.specs.Wire.{Reply}
+use Rattle.sbp_world.proofs.Words.Std.{arith, ◌≡◌, ◌∙◌, refl, sym, ap, subst, ℕ, suc, ◌+◌, ◌-◌, ◌&&◌, ◌||◌, not, nat_eq, nat_lt, Bool, true, false, cond, List, [], ◌∷◌, ◌++◌, Option, Some, None, Result, Ok, Err, position, filter, nat_tests, position-Some, false≢true}
+use Rattle.sbp_world.proofs.Words.Wire.{LabelParts, Packet, header_in, reading, AreAsks, IsAnswering, IsAsking, IsDelivery, IsExpiry, answered_by, layer_after, request_to, requests_of, with_asked, Reply, Asked, Stale, Finding, Layer, asking_step, of_again, of_generation, of_grammar, of_label, of_request, of_response, Kept, Sent, found, found_sent, is_flying, sent_of, with_delivered, without, by_bus_rule, deliver_step, newest, stays, with_sent, Topology, GenerationsState, id_of, is_at, node_in, node_of, one_of_five, topology_at, Judged, Outgoing, Side}
+use Rattle.sbp_world.proofs.Words.Target.{Purpose}
+use Rattle.sbp_world.proofs.Words.World.{marked, asked, posted, sent, sent_all, sent_to, told, told_all, WorldState}
 use Rattle.bus_transactions.proofs.FitJudged.{IsFoundAs}
-use Rattle.label_table.specs.declared.judgement.Asked.{Asked}
-use Rattle.label_table.specs.declared.reply.Stale.{Stale}
 use Rattle.label_table.specs.History as wire
-use Rattle.label_table.specs.Layer.{Finding, Layer, asking_step, of_again, of_generation, of_grammar, of_label, of_request, of_response}
-use Rattle.packet_store.specs.declared.sent.Kept.{Kept}
-use Rattle.packet_store.specs.declared.sent.Sent.{Sent}
 use Rattle.packet_store.specs.declared.transaction.Transaction.{Transaction}
-use Rattle.packet_store.specs.Kept.{found, found_sent, is_flying, sent_of, with_delivered, without}
-use Rattle.packet_store.specs.Stored.{by_bus_rule, deliver_step, newest, stays, with_sent}
 use Rattle.packet_store.specs.Transactions.{begun_by}
-use Rattle.sbp_bus.specs.declared.generations.Topology.{Topology}
-use Rattle.sbp_bus.specs.Generations.{GenerationsState, id_of, is_at, node_in, node_of, one_of_five, topology_at}
-use Rattle.sbp_journal.specs.declared.cause.Judged.{Judged}
-use Rattle.sbp_journal.specs.declared.outbox.Outgoing.{Outgoing}
-use Rattle.sbp_journal.specs.declared.side.Side.{Side}
 use Rattle.sbp_journal.specs.declared.side.Side.TheVariants as sides
-use Rattle.sbp_target.specs.declared.purpose.Purpose.{Purpose}
-use Rattle.sbp_world.specs.Delivering.{marked}
-use Rattle.sbp_world.specs.Sending.{asked, posted, sent, sent_all, sent_to}
-use Rattle.sbp_world.specs.Telling.{told, told_all}
-use Rattle.sbp_world.specs.Worlds.{WorldState}
 use Rattle.sbp_world.proofs.Wire.Alike.{sent_alike}
 use Rattle.sbp_world.proofs.Wire.Found.{has_id}
 

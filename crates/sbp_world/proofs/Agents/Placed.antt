@@ -1,19 +1,11 @@
 -- The logins of a table, and who has their places: what each change makes of both.
-use Rattle.std.proofs.Common.{arith, ◌≡◌, ◌≢◌, ◌∙◌, refl, sym, ap, subst, ℕ, ◌<◌, nat_eq, Bool, true, false, List, length, map, set, get_or, get_or-set_other, Option, Some, None}
-use Rattle.std.specs.Prelude.{is_none, position}
-use Rattle.std.proofs.Math.ListN.{get_or-map, length-set}
-use Rattle.std.proofs.lemmas.Bool.Decides.{nat_tests}
-use Rattle.std.proofs.lemmas.Grind.{common_steps, get_or-set_at}
-use Rattle.std.proofs.lemmas.List.{ext_get_or, length-map}
-use Rattle.std.proofs.lemmas.List.Quantifiers.{position-Some}
-use Rattle.std.proofs.lemmas.Bool.{false≢true}
+use Rattle.sbp_world.proofs.Words.Std.{arith, ◌≡◌, ◌≢◌, ◌∙◌, refl, sym, ap, subst, ℕ, ◌<◌, nat_eq, Bool, true, false, List, length, map, set, get_or, Option, Some, None, is_none, position, get_or-map, length-set, nat_tests, common_steps, get_or-set_at, ext_get_or, length-map, position-Some, false≢true}
+use Rattle.sbp_world.proofs.Words.Wire.{Holder, back_at, back_step, enter_step, has_login, is_free, left_step, opened_by, opened_step, place_in, put_at, taken_by}
+use Rattle.sbp_world.proofs.Words.Target.{Login, held, is_live, one_less, place_at, revived}
+use Rattle.sbp_world.proofs.Words.Laws.{at_id, second_gone}
+use Rattle.std.proofs.Common.{get_or-set_other}
 use Rattle.bus_transactions.proofs.Rooms.{position_map}
 use Rattle.label_table.proofs.Owned.{position_none}
-use Rattle.login_table.specs.declared.login.Login.{Login}
-use Rattle.login_table.specs.Table.{held, is_live, one_less, place_at, revived}
-use Rattle.sbp_bus.specs.declared.places.Holder.{Holder}
-use Rattle.sbp_bus.specs.Places.{back_at, back_step, enter_step, has_login, is_free, left_step, opened_by, opened_step, place_in, put_at, taken_by}
-use Rattle.sbp_laws.specs.Targets.{at_id, second_gone}
 use Rattle.sbp_world.proofs.Agents.Management.Places.{AreApart, at_other, one_changed}
 
 -- Whose a login is: a live one is of an initiator whose node's ID it has.

@@ -1,49 +1,24 @@
 -- What the requests of the target are for, in every run.
-use Rattle.std.proofs.Common.{arith, ◌≡◌, ◌∙◌, refl, sym, ap, subst, ℕ, ◌<◌, List, length, map, Option, Some, None}
-use Rattle.std.specs.Prelude.{position, slice_index_or}
-use Rattle.std.proofs.Math.ListN.{get_or-map}
-use Rattle.async_packet.specs.Labels.{LabelParts}
-use Rattle.bus_transactions.specs.Bare.{bare, bare_place}
-use Rattle.bus_transactions.specs.Rows.{awaits, kind_as, shape, shape_of}
-use Rattle.bus_transactions.specs.Wire.{Node, transaction}
+use Rattle.sbp_world.proofs.Words.Std.{arith, ◌≡◌, ◌∙◌, refl, sym, ap, subst, ℕ, ◌<◌, List, length, map, Option, Some, None, position, slice_index_or, get_or-map}
+use Rattle.sbp_world.proofs.Words.Wire.{LabelParts, bare, bare_place, awaits, kind_as, shape, shape_of, Node, transaction, LabelState, ReplyKind, under_way, Layer, is_owned_by, or_else, owned_place, shown_in, PeerPlace, no_peer, peer_of, purpose_for, state_for, place_at, topology_at, find, serial_at, request_of, Moment, Kind, Held, Terms, free, rests, terms, waits}
+use Rattle.sbp_world.proofs.Words.Target.{source_in, Disk, Purpose, Sent, desk_at, IsUnderWay, TransactionLaw}
+use Rattle.sbp_world.proofs.Words.Laws.{target_at}
+use Rattle.sbp_world.proofs.Words.World.{WorldState, Stands, Awaits, ArePurposesAt, HasPurpose}
 use Rattle.bus_transactions.proofs.Reaches.{goes_on}
 use Rattle.bus_transactions.proofs.Rooms.{position_map}
-use Rattle.label_table.specs.declared.place.LabelState.{LabelState}
 use Rattle.label_table.specs.declared.place.LabelState.TheVariants as states
-use Rattle.label_table.specs.declared.reply.ReplyKind.{ReplyKind}
 use Rattle.label_table.specs.History as wire
-use Rattle.label_table.specs.History.{under_way}
-use Rattle.label_table.specs.Layer.{Layer}
-use Rattle.label_table.specs.Owned.{is_owned_by, or_else, owned_place, shown_in}
-use Rattle.label_table.specs.Peers.{PeerPlace, no_peer, peer_of, purpose_for, state_for}
-use Rattle.label_table.specs.Table.{place_at}
 use Rattle.label_table.proofs.Calls.{after_kept}
-use Rattle.mgmt_agent.specs.Machine.{source_in}
-use Rattle.rbc_disk.specs.Disk.{Disk}
-use Rattle.sbp_bus.specs.Generations.{topology_at}
-use Rattle.sbp_bus.specs.Requests.{find, serial_at}
-use Rattle.sbp_bus.specs.Sending.{request_of}
-use Rattle.sbp_journal.specs.Run.{Moment}
-use Rattle.sbp_journal.specs.Transactions.{Kind}
-use Rattle.sbp_journal.specs.Wire.{Held, Terms, free, rests, terms, waits}
-use Rattle.sbp_laws.specs.Targets.{target_at}
-use Rattle.sbp_target.specs.declared.purpose.Purpose.{Purpose}
 use Rattle.sbp_target.specs.declared.purpose.Purpose.TheVariants as purposes
-use Rattle.sbp_target.specs.declared.purpose.Sent.{Sent}
-use Rattle.sbp_target.specs.Nodes.{desk_at}
-use Rattle.sbp_world.specs.Worlds.{WorldState}
-use Rattle.sbp_world.specs.Wire.Wires.{Stands}
 use Rattle.sbp_world.proofs.Wire.Bus.{holds}
 use Rattle.sbp_world.proofs.Wire.Entered.{number_small}
 use Rattle.sbp_world.proofs.Wire.Found.{IsKnown, has_known}
 use Rattle.sbp_world.proofs.Wire.Holding.{KnownTo}
-use Rattle.sbp_target.specs.Histories.Transactions.{IsUnderWay, TransactionLaw}
 use Rattle.sbp_target.proofs.Histories.Calling.{Good}
 use Rattle.sbp_target.proofs.Histories.Seats.{IsFor}
-use Rattle.sbp_world.specs.Agents.Management.Terms.{Awaits}
 use Rattle.sbp_world.proofs.Agents.Management.Holding.{Holding, good_of, known_id, law_of, past_terms, same_id}
 use Rattle.sbp_world.proofs.Agents.Management.Still.{hist}
-use Rattle.sbp_world.specs.Agents.Purposes.{ArePurposesAt, HasPurpose, HasRequest}
+use Rattle.sbp_world.specs.Agents.Purposes.{HasRequest}
 
 -- ---- labels of a layer, and of the layer without what its transactions are for
 pub peer_bare : (P : Type 0) → bare_place {P = P} no_peer ≡ no_peer

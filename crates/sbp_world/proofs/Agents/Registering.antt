@@ -1,59 +1,18 @@
 -- After each line of a world, and behind each delivery of one, the terms have the target's registers enabled.
-use Rattle.std.proofs.Common.{arith, ◌≡◌, ◌∙◌, refl, sym, ap, subst, ℕ, zero, suc, ◌+◌, ◌-◌, ◌^◌, ◌<◌, ◌≤◌, not, nat_eq, nat_lt, Bool, true, false, cond, List, [], ◌∷◌, ◌++◌, length, map, Option, Some, None, Result, Ok, Err}
-use Rattle.std.specs.Prelude.{if◌then◌else◌, replicate, slice_index_or, slice_set}
-use Rattle.std.proofs.lemmas.Grind.{common_steps}
-use Rattle.std.proofs.lemmas.Bool.{false≢true}
-use Rattle.bus_transactions.specs.Wire.{as_sending}
-use Rattle.label_table.specs.declared.reply.Stale.{Stale}
-use Rattle.packet_store.specs.declared.sent.Sent.{Sent}
-use Rattle.packet_store.specs.Kept.{found_sent}
-use Rattle.orb_layout.specs.Replies.{Expired}
-use Rattle.rbc_disk.specs.Disk.{Disk}
-use Rattle.rbc_disk.specs.Runs.{Told}
-use Rattle.sbp_bus.specs.declared.requests.Request.{Request}
-use Rattle.sbp_bus.specs.Generations.{id_of}
-use Rattle.sbp_bus.specs.Packets.{end_note, judged_note, no_node, no_packet}
-use Rattle.sbp_bus.specs.Requests.{find}
-use Rattle.sbp_initiator.specs.Acting.{act_step}
-use Rattle.sbp_initiator.specs.Effects.{Turn}
-use Rattle.sbp_initiator.specs.Initiators.{new_state}
-use Rattle.sbp_initiator.specs.Receiving.{expire_step, receive_step}
-use Rattle.sbp_initiator.specs.Seeing.{see_step}
-use Rattle.sbp_journal.specs.declared.cause.Judged.{Judged}
+use Rattle.sbp_world.proofs.Words.Std.{arith, ◌≡◌, ◌∙◌, refl, sym, ap, subst, ℕ, zero, suc, ◌+◌, ◌-◌, ◌^◌, ◌<◌, ◌≤◌, not, nat_eq, nat_lt, Bool, true, false, cond, List, [], ◌∷◌, ◌++◌, length, map, Option, Some, None, Result, Ok, Err, if◌then◌else◌, slice_index_or, slice_set, common_steps, false≢true}
+use Rattle.sbp_world.proofs.Words.Wire.{as_sending, Stale, Sent, found_sent, Request, id_of, end_note, judged_note, no_node, no_packet, find, Judged, Action, Event, Note, Side, OutboxState, empty_outbox, Moment, asked, said, terms}
+use Rattle.sbp_world.proofs.Words.Target.{Disk, Told, alone, lets_expire, Desk, new_desk, NodeState, scene, expired, received, with_key}
+use Rattle.sbp_world.proofs.Words.Initiator.{Expired, act_step, Turn, new_state, expire_step, receive_step, see_step}
+use Rattle.sbp_world.proofs.Words.Laws.{Target, is_serial, known_at, over, laws_replied, reset_seen, target_at}
+use Rattle.sbp_world.proofs.Words.World.{Arrival, arrived, at_target, delivered, delivered_by, initiator_received, initiators_received, marked, received_by, received_step, target_received, whole_of, with_initiators, handed_out, moments_behind, acted, acted_by, happens, keyed, no_unit, weight_in, new_world, ready_logins, handed_all, initiator_learns, reset_line, see_line, sees, target_learns, target_sees, target_ticks, tick_line, told_seen, with_seen, at_initiator, delivered_if, expires, first_told, initiator_expires, inject_line, injected, injected_to, is_in_flight, lose_line, lost, may_repeat, refused, target_expired, target_left, timed_out, timeout_line, timeout_of, AreEntries, Entry, Run, after, beginning, posted, after_all, delivered_at, delivered_next, is_settled, lowest, told, told_all, Scene, WorldState, begun, initiator_at, with_initiator, with_note, with_target, without_notes, AreLines, IsLine, AreTermsOf, EnabledTermsBetweenLaw, EnabledTermsLaw}
+use Rattle.std.specs.Prelude.{replicate}
 use Rattle.sbp_journal.specs.declared.cause.Judged.TheVariants as judgements
-use Rattle.sbp_journal.specs.declared.event.Action.{Action}
-use Rattle.sbp_journal.specs.declared.event.Event.{Event}
 use Rattle.sbp_journal.specs.declared.event.Event.TheVariants as events
-use Rattle.sbp_journal.specs.declared.note.Note.{Note}
 use Rattle.sbp_journal.specs.declared.note.Note.TheVariants as notes
-use Rattle.sbp_journal.specs.declared.side.Side.{Side}
 use Rattle.sbp_journal.specs.declared.side.Side.TheVariants as sides
-use Rattle.sbp_journal.specs.Outgoings.{OutboxState, empty_outbox}
-use Rattle.sbp_journal.specs.Run.{Moment, asked, said}
-use Rattle.sbp_journal.specs.Wire.{terms}
 use Rattle.sbp_laws.specs.Packets as laws
-use Rattle.sbp_laws.specs.Targets.{Target, is_serial, known_at, over, replied as laws_replied, reset_seen, target_at}
-use Rattle.sbp_target.specs.Calls.{alone, lets_expire}
-use Rattle.sbp_target.specs.declared.desk.Desk.{Desk}
-use Rattle.sbp_target.specs.Desks.{new_desk}
-use Rattle.sbp_target.specs.Nodes.{NodeState, scene}
 use Rattle.sbp_target.specs.Nodes as target
-use Rattle.sbp_target.specs.Receiving.{expired, received, with_key}
-use Rattle.sbp_world.specs.declared.parts.delivering.Arrival.{Arrival}
-use Rattle.sbp_world.specs.Delivering.{arrived, at_target, delivered, delivered_by, initiator_received, initiators_received, marked, received_by, received_step, target_received, whole_of, with_initiators}
-use Rattle.sbp_world.specs.Handing.{handed_out}
-use Rattle.sbp_world.specs.Histories.{moments_behind}
-use Rattle.sbp_world.specs.Lines.{acted, acted_by, happens, keyed, no_unit, weight_in}
-use Rattle.sbp_world.specs.Making.{new_world, ready_logins}
-use Rattle.sbp_world.specs.Nodes.{handed_all, initiator_learns, reset_line, see_line, sees, target_learns, target_sees, target_ticks, tick_line, told_seen, with_seen}
-use Rattle.sbp_world.specs.Packets.{at_initiator, delivered_if, expires, first_told, initiator_expires, inject_line, injected, injected_to, is_in_flight, lose_line, lost, may_repeat, refused, target_expired, target_left, timed_out, timeout_line, timeout_of}
 use Rattle.sbp_world.specs.Packets as packets
-use Rattle.sbp_world.specs.Runs.{AreEntries, Entry, Run, after, beginning}
-use Rattle.sbp_world.specs.Sending.{posted}
-use Rattle.sbp_world.specs.Settling.{after_all, delivered_at, delivered_next, is_settled, lowest}
-use Rattle.sbp_world.specs.Telling.{told, told_all}
-use Rattle.sbp_world.specs.Worlds.{Scene, WorldState, begun, initiator_at, with_initiator, with_note, with_target, without_notes}
-use Rattle.sbp_world.specs.Wire.Lines.{AreLines, IsLine}
 use Rattle.sbp_world.proofs.Wire.Comes.{own_inside, own_outside, received_is, to_own, to_zero}
 use Rattle.sbp_world.proofs.Wire.Nodes.{handed_alike, marked_alike}
 use Rattle.sbp_world.proofs.Wire.ToldBytes.{AreTold, happened_fits}
@@ -64,7 +23,6 @@ use Rattle.sbp_world.proofs.Agents.Management.Lines.{all_heard, line_holds, open
 use Rattle.sbp_world.proofs.Formed.{AreOwn, IsNoRun, IsOwn}
 use Rattle.sbp_world.proofs.Agents.Management.Runs.{holds_after, no_repeats, not_reset}
 use Rattle.sbp_world.proofs.Agents.Management.Still.{hist}
-use Rattle.sbp_world.specs.Agents.Enabled.{AreTermsOf, EnabledTermsBetweenLaw, EnabledTermsLaw}
 use Rattle.sbp_world.proofs.Agents.Agreeing.{delivery_agrees, lapse_agrees, second_agrees, sight_agrees}
 use Rattle.sbp_world.proofs.Agents.Disabling.{IsStill, all_still, enabled_in, injected_still, note_still, one_note, over_same, reply_keeps, wire_in}
 use Rattle.sbp_world.proofs.Agents.Heeding.{same_registers}

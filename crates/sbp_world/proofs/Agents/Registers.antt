@@ -1,46 +1,18 @@
 -- A time-out of a transaction of an agent, and a write of its registers, to its term.
-use Rattle.std.proofs.Common.{arith, ◌≡◌, ◌≢◌, ◌∙◌, refl, sym, ap, subst, ℕ, ◌<◌, nat_eq, is_some, Bool, true, false, cond, List, [], length, Option, Some, None, Ok}
-use Rattle.std.proofs.Math.ListN.{length-set}
-use Rattle.std.proofs.lemmas.Bool.{false≢true, true≢false}
-use Rattle.async_packet.specs.Packet.{Packet}
-use Rattle.label_table.specs.Layer.{Layer}
+use Rattle.sbp_world.proofs.Words.Std.{arith, ◌≡◌, ◌≢◌, ◌∙◌, refl, sym, ap, subst, ℕ, ◌<◌, nat_eq, is_some, Bool, true, false, cond, List, [], length, Option, Some, None, Ok, length-set, false≢true, true≢false}
+use Rattle.sbp_world.proofs.Words.Wire.{Packet, Layer, empty_outbox}
+use Rattle.sbp_world.proofs.Words.Target.{Login, PlainDisk, Outcome, Phase, AgentState, AgentStep, Which, Ahead, Main, Machine, aligned, is_ahead, is_sent, present_of, state_in, asks, doorbell_in, doorbell_step, fetch_step, lost_step, point_in, point_step, reply_step, reread_step, Desk, Purpose, Sent, follow, expired_desk, new_desk, pointed_desk, NodeState, Scene, desk_at, login_at, scene, with_desk, expired_with, answer_step, with_side, answered, asked_in, point, pointed_by, ring, rung_by, orb_of}
+use Rattle.sbp_world.proofs.Words.Initiator.{Ask, Nothing, OrbPointer, At, Null, Expired}
+use Rattle.sbp_world.proofs.Words.Laws.{Agent, agent_over, term_pointed, rings}
+use Rattle.sbp_world.proofs.Words.World.{Alike, StepsAlike, AreOne, IsOf, Request, ToldAlike, address, term_answered, pointed, with_requests}
 use Rattle.label_table.proofs.Owned.{set_at}
-use Rattle.login_table.specs.declared.login.Login.{Login}
-use Rattle.orb_layout.specs.declared.ask.Ask.{Ask}
-use Rattle.orb_layout.specs.declared.ask.Ask.TheVariants.{Nothing}
 use Rattle.orb_layout.specs.declared.ask.FailCause.TheVariants as causes
-use Rattle.orb_layout.specs.declared.pointer.OrbPointer.{OrbPointer}
-use Rattle.orb_layout.specs.declared.pointer.OrbPointer.TheVariants.{At, Null}
-use Rattle.orb_layout.specs.Replies.{Expired}
-use Rattle.rbc_disk.specs.Units.{PlainDisk}
-use Rattle.rbc_disk.specs.declared.command.Outcome.{Outcome}
-use Rattle.command_agent.specs.declared.phase.Phase.{Phase}
 use Rattle.command_agent.specs.declared.phase.Phase.TheVariants as phases
-use Rattle.command_agent.specs.declared.step.AgentState.{AgentState}
 use Rattle.command_agent.specs.declared.step.AgentState.TheVariants as states
-use Rattle.command_agent.specs.declared.step.AgentStep.{AgentStep}
-use Rattle.command_agent.specs.declared.step.Which.{Which}
-use Rattle.command_agent.specs.declared.step.Which.TheVariants.{Ahead, Main}
-use Rattle.command_agent.specs.Machine.{Machine, aligned, is_ahead, is_sent, present_of, state_in}
-use Rattle.command_agent.specs.Steps.{asks, doorbell_in, doorbell_step, fetch_step, lost_step, point_in, point_step, reply_step, reread_step}
 use Rattle.command_agent.proofs.Losing.{losses_silent, reply_lost}
 use Rattle.sbp_journal.specs.declared.side.Side.TheVariants as sides
-use Rattle.sbp_journal.specs.Outgoings.{empty_outbox}
-use Rattle.sbp_laws.specs.Targets.{Agent, agent_over, pointed_by as term_pointed, rings}
-use Rattle.sbp_target.specs.declared.desk.Desk.{Desk}
-use Rattle.sbp_target.specs.declared.purpose.Purpose.{Purpose}
-use Rattle.sbp_target.specs.declared.purpose.Sent.{Sent}
-use Rattle.sbp_target.specs.Agents.{follow}
-use Rattle.sbp_target.specs.Desks.{expired_desk, new_desk, pointed_desk}
-use Rattle.sbp_target.specs.Nodes.{NodeState, Scene, desk_at, login_at, scene, with_desk}
-use Rattle.sbp_target.specs.Receiving.{expired_with}
-use Rattle.sbp_target.specs.Sending.{answer_step, with_side}
-use Rattle.sbp_target.specs.Serving.{answered, asked_in, point, pointed_by, ring, rung_by}
-use Rattle.sbp_target.specs.Telling.{orb_of}
 use Rattle.sbp_target.proofs.Histories.Calling.{Good}
 use Rattle.sbp_target.proofs.Histories.Stepped.{ahead_loses, behind_fetch, behind_reread, is_bare, main_loses}
-use Rattle.sbp_world.specs.Agents.Alike.{Alike, StepsAlike}
-use Rattle.sbp_world.specs.Agents.Crews.{AreOne, IsOf, Request, ToldAlike, address, answered as term_answered, pointed, with_requests}
 use Rattle.sbp_world.proofs.Agents.Announces.{Ended, done_ended}
 use Rattle.sbp_world.proofs.Agents.Follows.{Settled, Stepped, follows}
 use Rattle.sbp_world.proofs.Agents.Mild.{Mild, reply_mild}

@@ -1,28 +1,13 @@
 -- What each turn of an agent makes of its term.
-use Rattle.std.proofs.Common.{◌≡◌, ◌∙◌, refl, sym, ap, subst, ℕ, ◌<◌, is_some, Bool, true, cond, List, Option, Some, None}
-use Rattle.label_table.specs.Layer.{Layer}
-use Rattle.login_table.specs.declared.login.Login.{Login}
-use Rattle.orb_layout.specs.Replies.{Answer}
-use Rattle.rbc_disk.specs.Disk.{Disk, disk_at}
-use Rattle.rbc_disk.specs.Runs.{Told, left_by, told_in}
-use Rattle.rbc_disk.specs.Units.{PlainDisk}
-use Rattle.rbc_disk.specs.declared.command.Outcome.{Outcome}
+use Rattle.sbp_world.proofs.Words.Std.{◌≡◌, ◌∙◌, refl, sym, ap, subst, ℕ, ◌<◌, is_some, Bool, true, cond, List, Option, Some, None}
+use Rattle.sbp_world.proofs.Words.Wire.{Layer, empty_outbox}
+use Rattle.sbp_world.proofs.Words.Target.{Login, Disk, disk_at, Told, left_by, told_in, PlainDisk, Outcome, AgentStep, Which, Ahead, Main, Machine, is_ahead, MayTell, reply_step, Purpose, NodeState, desk_at, scene, advance, came, plain_at, replied, replied_with, scene_of, stage, whole}
+use Rattle.sbp_world.proofs.Words.Initiator.{Answer}
+use Rattle.sbp_world.proofs.Words.Laws.{Agent}
+use Rattle.sbp_world.proofs.Words.World.{Alike, StepsAlike, IsOf, Request, ToldAlike, answered}
 use Rattle.command_agent.specs.declared.phase.Phase.TheVariants as phases
-use Rattle.command_agent.specs.declared.step.AgentStep.{AgentStep}
-use Rattle.command_agent.specs.declared.step.Which.{Which}
-use Rattle.command_agent.specs.declared.step.Which.TheVariants.{Ahead, Main}
-use Rattle.command_agent.specs.Machine.{Machine, is_ahead}
-use Rattle.command_agent.specs.Runs.{MayTell}
-use Rattle.command_agent.specs.Steps.{reply_step}
-use Rattle.sbp_journal.specs.Outgoings.{empty_outbox}
-use Rattle.sbp_laws.specs.Targets.{Agent}
-use Rattle.sbp_target.specs.declared.purpose.Purpose.{Purpose}
-use Rattle.sbp_target.specs.Nodes.{NodeState, desk_at, scene}
-use Rattle.sbp_target.specs.Replies.{advance, came, plain_at, replied, replied_with, scene_of, stage, whole}
 use Rattle.sbp_target.proofs.Histories.Calling.{Good}
 use Rattle.sbp_target.proofs.Histories.Stepped.{ahead_replied, main_replied}
-use Rattle.sbp_world.specs.Agents.Alike.{Alike, StepsAlike}
-use Rattle.sbp_world.specs.Agents.Crews.{IsOf, Request, ToldAlike, answered}
 use Rattle.sbp_world.proofs.Agents.Announces.{Ended}
 use Rattle.sbp_world.proofs.Agents.Loads.{came_there, ran_loads}
 use Rattle.sbp_world.proofs.Agents.Mild.{IsGiven, reply_mild}

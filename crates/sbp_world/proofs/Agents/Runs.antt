@@ -1,19 +1,13 @@
 -- In every run the requests of the target are for what it has under way.
-use Rattle.std.proofs.Common.{subst, ◌∷◌, ◌++◌, map}
-use Rattle.sbp_journal.specs.Run.{asked, said}
-use Rattle.sbp_world.specs.Making.{ready_logins}
-use Rattle.sbp_world.specs.Runs.{after, beginning}
-use Rattle.sbp_world.specs.Settling.{after_all}
-use Rattle.sbp_world.specs.Worlds.{begun}
+use Rattle.sbp_world.proofs.Words.Std.{subst, ◌∷◌, ◌++◌, map}
+use Rattle.sbp_world.proofs.Words.Wire.{asked, said}
+use Rattle.sbp_world.proofs.Words.World.{ready_logins, after, beginning, after_all, begun, LabelsBetweenLaw, LabelsLaw, LeavingBetweenLaw, LeavingLaw, ArePurposesAt, BetweenLaw, PurposesLaw, AreHandedAt, HandedBetweenLaw}
 use Rattle.sbp_world.proofs.Agents.Management.Lines.{all_heard, opens}
 use Rattle.sbp_world.proofs.Agents.Management.Runs.{holds_after, no_repeats, not_reset}
 use Rattle.sbp_world.proofs.Agents.Management.Still.{hist}
-use Rattle.sbp_world.specs.Agents.Fresh.{LabelsBetweenLaw, LabelsLaw}
 use Rattle.sbp_world.proofs.Agents.Fresh.{labels_new}
-use Rattle.sbp_world.specs.Agents.Leaving.{LeavingBetweenLaw, LeavingLaw}
 use Rattle.sbp_world.proofs.Agents.Leaving.{packets_leave}
-use Rattle.sbp_world.specs.Agents.Purposes.{ArePurposesAt, BetweenLaw, PurposesLaw}
-use Rattle.sbp_world.specs.Agents.Serials.{AreHandedAt, HandedBetweenLaw, HandedLaw}
+use Rattle.sbp_world.specs.Agents.Serials.{HandedLaw}
 use Rattle.sbp_world.proofs.Agents.Handed.{are_handed}
 use Rattle.sbp_world.proofs.Agents.Purposes.{are_purposes}
 use Rattle.sbp_world.proofs.Hosts.Runs.{are_told}

@@ -1,11 +1,9 @@
 -- The requests that a target has sent, and what the terms and the desks have of them.
-use Rattle.std.proofs.Common.{◌≡◌, ◌∙◌, refl, sym, ap, subst, inl, inr, ℕ, suc, ◌+◌, is_some, Bool, true, false, cond, List, [], ◌∷◌, ◌++◌, length, Option, Some, None, arith}
-use Rattle.async_packet.specs.Labels.{LabelParts}
-use Rattle.sbp_journal.specs.declared.outbox.Outgoing.{Outgoing}
-use Rattle.sbp_laws.specs.Targets.{Agent}
-use Rattle.sbp_target.specs.declared.desk.Desk.{Desk}
-use Rattle.sbp_target.specs.declared.purpose.Sent.{Sent}
-use Rattle.sbp_world.specs.Agents.Crews.{AreOne, Has, Request, with_request, with_requests}
+use Rattle.sbp_world.proofs.Words.Std.{◌≡◌, ◌∙◌, refl, sym, ap, subst, inl, inr, ℕ, suc, ◌+◌, is_some, Bool, true, false, cond, List, [], ◌∷◌, ◌++◌, length, Option, Some, None, arith}
+use Rattle.sbp_world.proofs.Words.Wire.{LabelParts, Outgoing}
+use Rattle.sbp_world.proofs.Words.Target.{Desk, Sent}
+use Rattle.sbp_world.proofs.Words.Laws.{Agent}
+use Rattle.sbp_world.proofs.Words.World.{AreOne, Has, Request, with_request, with_requests}
 
 -- ---- lists of requests
 

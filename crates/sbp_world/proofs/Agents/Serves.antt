@@ -1,46 +1,22 @@
 -- Requests that a target serves, and its other calls, change its agents as its notes do.
-use Rattle.std.proofs.Common.{arith, ◌≡◌, ◌∙◌, refl, sym, ap, subst, ℕ, zero, suc, ◌+◌, ◌<◌, nat_eq, Bool, true, false, cond, List, [], length, map, Option, Some, None, Result, Ok, Err}
-use Rattle.std.specs.Prelude.{slice_index_or, slice_set}
-use Rattle.std.proofs.lemmas.Bool.Decides.{nat_tests}
-use Rattle.std.proofs.lemmas.List.{get_or-map, length-map}
-use Rattle.async_packet.specs.Packet.{Packet, header_in}
-use Rattle.label_table.specs.declared.judgement.Asked.{Asked}
-use Rattle.label_table.specs.Bodies.{Body}
-use Rattle.label_table.specs.Layer.{Layer, asking_step, seeing_step}
+use Rattle.sbp_world.proofs.Words.Std.{arith, ◌≡◌, ◌∙◌, refl, sym, ap, subst, ℕ, zero, suc, ◌+◌, ◌<◌, nat_eq, Bool, true, false, cond, List, [], length, map, Option, Some, None, Result, Ok, Err, slice_index_or, slice_set, nat_tests, length-map}
+use Rattle.sbp_world.proofs.Words.Wire.{Packet, header_in, Asked, Body, Layer, asking_step, seeing_step, OutboxState, empty_outbox}
+use Rattle.sbp_world.proofs.Words.Target.{Login, Table, expired_ids, is_live, place_at, ManagerStep, Busy, Access, Demand, Desk, Purpose, cut, disabled, new_desk, ask_manager, lose_operation, lost_in, manager_asked, manager_body, manager_lost, manager_sent, tell_failed, NodeState, Scene, desk_at, scene, with_desk, cleared_node, expired_from, held_from, reset_by, target_seen, tell_held, target_ticked, answer_step, request_step, sent_by, with_side, accessed_by, answered, enabled, served_as, start, started_by, cut_all}
+use Rattle.sbp_world.proofs.Words.Initiator.{Ask, FailCause, NoLabel}
+use Rattle.sbp_world.proofs.Words.Laws.{Agent, cut_agent}
+use Rattle.sbp_world.proofs.Words.World.{Office, AreOf, accessed, Request, agent_in, crew_sides}
+use Rattle.std.proofs.lemmas.List.{get_or-map}
 use Rattle.label_table.proofs.Owned.{set_at}
-use Rattle.login_table.specs.declared.login.Login.{Login}
-use Rattle.login_table.specs.Table.{Table, expired_ids, is_live, place_at}
-use Rattle.mgmt_agent.specs.declared.decision.ManagerStep.{ManagerStep}
-use Rattle.mgmt_agent.specs.declared.operation.Busy.{Busy}
 use Rattle.mgmt_agent.specs.Machine as management
-use Rattle.orb_layout.specs.declared.ask.Ask.{Ask}
-use Rattle.orb_layout.specs.declared.ask.FailCause.{FailCause}
-use Rattle.orb_layout.specs.Replies.{NoLabel}
 use Rattle.sbp_journal.specs.declared.cause.CutCause.TheVariants as cuts
 use Rattle.sbp_journal.specs.declared.side.Side.TheVariants as sides
-use Rattle.sbp_journal.specs.Outgoings.{OutboxState, empty_outbox}
-use Rattle.sbp_laws.specs.Targets.{Agent, cut_agent}
-use Rattle.target_base.specs.declared.address.Access.{Access}
 use Rattle.target_base.specs.declared.address.Access.TheVariants as accesses
-use Rattle.target_base.specs.declared.address.Demand.{Demand}
 use Rattle.target_base.specs.declared.address.Demand.TheVariants as demands
-use Rattle.sbp_target.specs.declared.desk.Desk.{Desk}
-use Rattle.sbp_target.specs.declared.purpose.Purpose.{Purpose}
 use Rattle.sbp_target.specs.declared.purpose.Purpose.TheVariants as purposes
-use Rattle.sbp_target.specs.Agents.{cut}
-use Rattle.sbp_target.specs.Desks.{disabled, new_desk}
-use Rattle.sbp_target.specs.Management.{ask_manager, lose_operation, lost_in, manager_asked, manager_body, manager_lost, manager_sent, tell_failed}
-use Rattle.sbp_target.specs.Nodes.{NodeState, Scene, desk_at, scene, with_desk}
-use Rattle.sbp_target.specs.Receiving.{cleared_node, expired_from, held_from, reset_by, seen as target_seen, tell_held, ticked as target_ticked}
-use Rattle.sbp_target.specs.Sending.{answer_step, request_step, sent_by, with_side}
-use Rattle.sbp_target.specs.Serving.{accessed_by, answered, enabled, served_as, start, started_by}
-use Rattle.sbp_target.specs.Units.{cut_all}
 use Rattle.sbp_target.proofs.Histories.Calling.{Good}
 use Rattle.sbp_target.proofs.Histories.Following.{IsServed}
 use Rattle.sbp_world.proofs.Agents.Management.Calm.{AreQuiet, Calm, From, accesses_by, answers, cuts_all}
-use Rattle.sbp_world.specs.Agents.Management.Offices.{Office}
-use Rattle.sbp_world.specs.Agents.Calls.{AreOf, accessed, demanded, seen}
-use Rattle.sbp_world.specs.Agents.Crews.{Request, agent_in, crew_sides}
+use Rattle.sbp_world.specs.Agents.Calls.{demanded, seen}
 use Rattle.sbp_world.proofs.Agents.Calls.{AllSettled, Behind, IsUnmoved, all_terms_cut, cut_all_settled, idle_behind, one_term_cut, same_desks, settled_of, turned_behind, unmoved_settled}
 use Rattle.sbp_world.proofs.Agents.Cuts.{AreCut, IsKept, all_cut, kept_self, place_cut}
 use Rattle.sbp_world.proofs.Agents.Lists.{AreNoEntries, crew_more, entries_more, quiet_entries}

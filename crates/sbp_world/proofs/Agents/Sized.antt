@@ -1,14 +1,11 @@
 -- A write that an agent has under way has as many bytes as it was asked for.
-use Rattle.std.proofs.Common.{◌≡◌, ◌∙◌, refl, sym, ap, subst, ℕ, ◌-◌, ◌≤◌, true, false, List, length, take, drop, Option, Some, None, length-drop, length-take-le, arith}
-use Rattle.orb_layout.specs.declared.ask.Ask.TheVariants.{Nothing, Read, Write}
-use Rattle.page_table.specs.declared.segment.Chunk.{Chunk}
-use Rattle.page_table.specs.Buffer.{chunk_from}
-use Rattle.command_agent.specs.declared.phase.Phase.{Phase}
+use Rattle.sbp_world.proofs.Words.Std.{◌≡◌, ◌∙◌, refl, sym, ap, subst, ℕ, ◌-◌, ◌≤◌, true, false, List, length, take, drop, Option, Some, None, length-take-le, arith}
+use Rattle.sbp_world.proofs.Words.Target.{Phase, Machine, cut_to, is_sent, limit_of, answer_chunk, main_ask, main_under}
+use Rattle.sbp_world.proofs.Words.Initiator.{Nothing, Read, Write, Chunk, chunk_from}
+use Rattle.sbp_world.proofs.Words.World.{IsSized, IsStill}
+use Rattle.std.proofs.Common.{length-drop}
 use Rattle.command_agent.specs.declared.phase.Phase.TheVariants as phases
-use Rattle.command_agent.specs.Machine.{Machine, cut_to, is_sent, limit_of}
-use Rattle.command_agent.specs.Steps.{answer_chunk, answer_step}
-use Rattle.agent_laws.specs.Along.Requests.{main_ask, main_under}
-use Rattle.sbp_world.specs.Agents.Asked.{IsSized, IsStill}
+use Rattle.command_agent.specs.Steps.{answer_step}
 
 no_write : (offset size : ℕ) → Nothing ≡ Write offset size → ⊥
 no_write offset size e = cc

@@ -1,43 +1,17 @@
 -- Agents that are alike make the same steps.
-use Rattle.std.proofs.Common.{◌≡◌, ◌∙◌, refl, sym, ap, subst, ℕ, ◌+◌, ◌-◌, ◌*◌, ◌%◌, ◌==◌, ◌&&◌, ◌||◌, Bool, true, false, cond, List, ◌++◌, length, take, drop, Option, Some, None, Result, Ok, Err}
-use Rattle.std.proofs.lemmas.Bool.{false≢true}
-use Rattle.orb_layout.specs.declared.ask.Ask.{Ask}
-use Rattle.orb_layout.specs.declared.ask.Ask.TheVariants.{Read, Write}
-use Rattle.orb_layout.specs.declared.ask.FailCause.{FailCause}
+use Rattle.sbp_world.proofs.Words.Std.{◌≡◌, ◌∙◌, refl, sym, ap, subst, ℕ, ◌+◌, ◌-◌, ◌*◌, ◌%◌, ◌==◌, ◌&&◌, ◌||◌, Bool, true, false, cond, List, ◌++◌, length, take, drop, Option, Some, None, Result, Ok, Err, false≢true}
+use Rattle.sbp_world.proofs.Words.Target.{Need, Outcome, PlainDisk, need_of, Told, Phase, ReadAhead, AgentState, AgentStep, Move, PointRefusal, Which, Main, Ahead, Machine, awaits_run, chunk_of, is_ahead, plan_of, rung_in, state_in, verdict, death_by, reads_table, abort_step, advanced, ahead_lost, ahead_of, ahead_read, ahead_step, answer_chunk, answer_grown, asks, check_step, checked, chunk_written, data_grown, data_read, data_step, dead_step, doorbell_in, doorbell_step, elements_read, end_step, fail_step, fetch_step, follow_step, is_label, judged, lost, lost_step, main_lost, next_read, orb_read, point_in, point_step, pointed, quiet, ran_as, reply_step, reread_step, reset_step, run_step, sent, served, table_read, told_or, turn_step, turned, unread_buffer, wait_step, with_ahead, with_outcome}
+use Rattle.sbp_world.proofs.Words.Initiator.{Ask, Read, Write, FailCause, CommandOrb, OrbPointer, Null, At, StatusKind, command_orb, pointer_at, Answer, payload_of, write_failure, PageFault, Segment, elements_of, first_fault}
+use Rattle.sbp_world.proofs.Words.World.{Alike, AlikeLaw, StepsAlike, TellsAlike, answers, has_list, moves_data}
 use Rattle.orb_layout.specs.declared.ask.FailCause.TheVariants as causes
-use Rattle.orb_layout.specs.declared.command.CommandOrb.{CommandOrb}
-use Rattle.orb_layout.specs.declared.pointer.OrbPointer.{OrbPointer}
-use Rattle.orb_layout.specs.declared.pointer.OrbPointer.TheVariants.{Null, At}
-use Rattle.orb_layout.specs.declared.status.StatusKind.{StatusKind}
 use Rattle.orb_layout.specs.declared.status.StatusKind.TheVariants as kinds
-use Rattle.orb_layout.specs.CommandOrbs.{command_orb}
-use Rattle.orb_layout.specs.Pointers.{pointer_at}
-use Rattle.orb_layout.specs.Replies.{Answer, payload_of, write_failure}
-use Rattle.page_table.specs.declared.fault.PageFault.{PageFault}
-use Rattle.page_table.specs.declared.segment.Segment.{Segment}
-use Rattle.page_table.specs.Elements.{elements_of, first_fault}
-use Rattle.rbc_disk.specs.declared.command.Need.{Need}
 use Rattle.rbc_disk.specs.declared.command.Need.TheVariants as needs
-use Rattle.rbc_disk.specs.declared.command.Outcome.{Outcome}
 use Rattle.rbc_disk.specs.declared.command.Outcome.TheVariants as outcomes
-use Rattle.rbc_disk.specs.Units.{PlainDisk}
-use Rattle.rbc_disk.specs.Runs.{need_of, Told}
-use Rattle.command_agent.specs.declared.phase.Phase.{Phase}
 use Rattle.command_agent.specs.declared.phase.Phase.TheVariants as phases
-use Rattle.command_agent.specs.declared.phase.ReadAhead.{ReadAhead}
 use Rattle.command_agent.specs.declared.phase.ReadAhead.TheVariants as aheads
-use Rattle.command_agent.specs.declared.step.AgentState.{AgentState}
 use Rattle.command_agent.specs.declared.step.AgentState.TheVariants as states
-use Rattle.command_agent.specs.declared.step.AgentStep.{AgentStep}
-use Rattle.command_agent.specs.declared.step.Move.{Move}
 use Rattle.command_agent.specs.declared.step.Move.TheVariants as moves
-use Rattle.command_agent.specs.declared.step.PointRefusal.{PointRefusal}
-use Rattle.command_agent.specs.declared.step.Which.{Which}
-use Rattle.command_agent.specs.declared.step.Which.TheVariants.{Main, Ahead}
-use Rattle.command_agent.specs.Machine.{Machine, awaits_run, chunk_of, is_ahead, plan_of, rung_in, state_in}
-use Rattle.command_agent.specs.Checks.{verdict, death_by, reads_table}
-use Rattle.command_agent.specs.Steps.{abort_step, advanced, ahead_lost, ahead_of, ahead_read, ahead_step, answer_chunk, answer_grown, answer_step, asks, check_step, checked, chunk_written, data_grown, data_read, data_step, dead_step, doorbell_in, doorbell_step, elements_read, end_step, fail_step, fetch_step, follow_step, is_label, judged, lost, lost_step, main_lost, next_read, orb_read, point_in, point_step, pointed, quiet, ran_as, replied, reply_step, reread_step, reset_step, run_step, sent, served, status_written, table_read, told_or, turn_step, turned, unread_buffer, wait_step, with_ahead, with_outcome}
-use Rattle.sbp_world.specs.Agents.Alike.{Alike, AlikeLaw, StepsAlike, TellsAlike, answers, has_list, moves_data}
+use Rattle.command_agent.specs.Steps.{answer_step, replied, status_written}
 
 -- ---- an agent in the words of another: in a list; while its data are read; while its answer is written
 abbrev late : Machine → Machine → Machine

@@ -1,51 +1,24 @@
 -- What the target tells in a call changes who has a place as it changes its logins.
-use Rattle.std.proofs.Common.{arith, ◌≡◌, ◌∙◌, refl, sym, ap, subst, ℕ, suc, ◌<◌, ◌%◌, nat_eq, Bool, true, false, cond, List, [], ◌∷◌, ◌++◌, length, Option, Some, None}
-use Rattle.std.specs.Prelude.{is_none, position}
-use Rattle.std.proofs.lemmas.Bool.{false≢true}
-use Rattle.label_table.specs.declared.judgement.Asked.{Asked}
-use Rattle.label_table.specs.Bodies.{Body}
-use Rattle.label_table.specs.Layer.{Layer, asking_step}
-use Rattle.login_table.specs.declared.login.Login.{Login}
-use Rattle.login_table.specs.Table.{Table, entered}
-use Rattle.mgmt_agent.specs.declared.decision.Decision.{Decision}
-use Rattle.mgmt_agent.specs.declared.decision.Effect.{Effect}
+use Rattle.sbp_world.proofs.Words.Std.{arith, ◌≡◌, ◌∙◌, refl, sym, ap, subst, ℕ, suc, ◌<◌, ◌%◌, nat_eq, Bool, true, false, cond, List, [], ◌∷◌, ◌++◌, length, Option, Some, None, is_none, position, false≢true}
+use Rattle.sbp_world.proofs.Words.Wire.{Asked, Body, Layer, asking_step, Topology, Holder, GenerationsState, id_of, back_step, enter_step, holder_of, put_at, decided_places, managed_places, function_word, login_if, FunctionWord, Side, OutboxState, empty_outbox}
+use Rattle.sbp_world.proofs.Words.Target.{Login, Table, entered, Decision, Effect, ManagerStep, asked_by, Purpose, ask_manager, decided_by, effect_by, failed_by, lose_operation, lost_in, managed_with, manager_asked, manager_body, manager_lost, manager_sent, place_in, tell_failed, with_manager, NodeState, Scene, scene, asks_step, sent_by, cut_all}
+use Rattle.sbp_world.proofs.Words.Initiator.{Ask, FailCause, Answer}
+use Rattle.sbp_world.proofs.Words.Laws.{Decided, laws_decided, keep_decided, source_in}
+use Rattle.sbp_world.proofs.Words.World.{initiator_of, told, told_all, WorldState, Agrees, Office, by_managed, by_note, by_side, by_sides, placed, placed_by, replied, stepped}
 use Rattle.mgmt_agent.specs.declared.decision.Effect.TheVariants as effects
-use Rattle.mgmt_agent.specs.declared.decision.ManagerStep.{ManagerStep}
-use Rattle.mgmt_agent.specs.Decisions.{asked_by}
 use Rattle.mgmt_agent.specs.Machine as management
-use Rattle.orb_layout.specs.declared.ask.Ask.{Ask}
-use Rattle.orb_layout.specs.declared.ask.FailCause.{FailCause}
-use Rattle.orb_layout.specs.Replies.{Answer}
-use Rattle.sbp_bus.specs.declared.generations.Topology.{Topology}
-use Rattle.sbp_bus.specs.declared.places.Holder.{Holder}
-use Rattle.sbp_bus.specs.Generations.{GenerationsState, id_of}
-use Rattle.sbp_bus.specs.Places.{back_step, enter_step, holder_of, put_at}
 use Rattle.sbp_bus.specs.Telling as bus
-use Rattle.sbp_bus.specs.Telling.{decided_places, managed_places}
-use Rattle.sbp_bus.specs.Words.{function_word, login_if}
 use Rattle.sbp_journal.specs.declared.cause.CutCause.TheVariants as cuts
 use Rattle.sbp_journal.specs.declared.note.Note.TheVariants as notes
-use Rattle.sbp_journal.specs.declared.operation.FunctionWord.{FunctionWord}
 use Rattle.sbp_journal.specs.declared.operation.FunctionWord.TheVariants as words
-use Rattle.sbp_journal.specs.declared.side.Side.{Side}
 use Rattle.sbp_journal.specs.declared.side.Side.TheVariants as sides
-use Rattle.sbp_journal.specs.Outgoings.{OutboxState, empty_outbox}
-use Rattle.sbp_laws.specs.Targets.{Decided, decided_by as laws_decided, keep_decided, source_in}
-use Rattle.sbp_target.specs.declared.purpose.Purpose.{Purpose}
 use Rattle.sbp_target.specs.declared.purpose.Purpose.TheVariants as purposes
-use Rattle.sbp_target.specs.Management.{ask_manager, decided_by, effect_by, failed_by, lose_operation, lost_in, managed_with, manager_asked, manager_body, manager_lost, manager_sent, place_in, tell_failed, with_manager}
-use Rattle.sbp_target.specs.Nodes.{NodeState, Scene, scene}
-use Rattle.sbp_target.specs.Sending.{request_step as asks_step, sent_by}
-use Rattle.sbp_target.specs.Units.{cut_all}
-use Rattle.sbp_world.specs.Telling.{initiator_of, told, told_all}
-use Rattle.sbp_world.specs.Worlds.{WorldState}
 use Rattle.sbp_world.proofs.Wire.Alike.{told_alike}
 use Rattle.sbp_target.proofs.Histories.Seats.{Lives}
 use Rattle.sbp_world.proofs.Agents.Management.Calm.{AreQuiet, Calm, From, IsQuiet, clears_from, clears_one, cuts_all, cuts_placed}
 use Rattle.sbp_world.proofs.Agents.Management.Managing.{quiet_says}
 use Rattle.sbp_world.proofs.Agents.Management.Places.{AreApart}
 use Rattle.sbp_world.proofs.Agents.Management.Sides.{sides_more}
-use Rattle.sbp_world.specs.Agents.Management.Offices.{Agrees, Office, by_managed, by_note, by_side, by_sides, placed, placed_by, replied, stepped}
 use Rattle.sbp_world.proofs.Agents.Granting.{Grants, IsBack, StepBrings, reply_brings}
 use Rattle.sbp_world.proofs.Agents.Placed.{IsHolder, Placed, back_placed, entered_placed, first_free, left_placed, opened_placed}
 

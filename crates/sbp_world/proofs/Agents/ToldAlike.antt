@@ -1,46 +1,19 @@
 -- What the target tells of a run, and what was told to it: of one outcome and of as many bytes, and of the same bytes where the medium tells its bytes.
-use Rattle.std.proofs.Common.{arith, ◌≡◌, ◌∙◌, refl, sym, ap, subst, ℕ, ◌<◌, ◌&&◌, Bool, true, false, List, [], ◌∷◌, ◌++◌, length, Option, Some, None, Result, Ok, Err, is_some}
-use Rattle.std.specs.Prelude.{IfSome, is_none, replicate, slice_set, unwrap_or}
-use Rattle.std.proofs.lemmas.List.{get_or-set_same, length-replicate}
-use Rattle.async_packet.specs.Labels.{LabelParts}
-use Rattle.async_packet.specs.Packet.{header_in}
-use Rattle.label_table.specs.declared.reply.Stale.{Stale}
-use Rattle.label_table.specs.Layer.{Finding, Layer, expiring_step, judging_step, of_again, of_generation, of_grammar, of_label, of_request, of_response}
-use Rattle.login_table.specs.declared.login.Login.{Login}
+use Rattle.sbp_world.proofs.Words.Std.{arith, ◌≡◌, ◌∙◌, refl, sym, ap, subst, ℕ, ◌<◌, ◌&&◌, Bool, true, false, List, [], ◌∷◌, ◌++◌, length, Option, Some, None, Result, Ok, Err, is_some, is_none, slice_set, unwrap_or, get_or-set_same, length-replicate}
+use Rattle.sbp_world.proofs.Words.Wire.{LabelParts, header_in, Stale, Finding, Layer, expiring_step, judging_step, of_again, of_generation, of_grammar, of_label, of_request, of_response, check_of, Side, empty_outbox}
+use Rattle.sbp_world.proofs.Words.Target.{Login, Outcome, Disk, disk_at, Told, answer_length_of, answer_of, left_by, told_in, PlainDisk, AgentStep, Which, Machine, MayRun, MayTell, reply_step, Desk, Purpose, follow, alone, lets_expire, expired_desk, new_desk, taken, which_in, NodeState, desk_at, login_at, scene, with_desk, TellsIn, answer_in, concluded, expire_agent, expired, expired_by, expired_in, expired_with, received, received_as, with_layer, TellsBy, advance, advanced_with, announced_by, came, changed_by, follow_all, plain_in, step_replied, replied_by, replied_to, replied_with, served_login, stage, whole, orb_of, tell_ran}
+use Rattle.sbp_world.proofs.Words.Initiator.{Answer}
+use Rattle.sbp_world.proofs.Words.Laws.{Agent}
+use Rattle.sbp_world.proofs.Words.World.{holder, WorldState, TellsAlike, ToldAlike, answered, IsOfStep, IsRunOf, run_told, run_untold}
+use Rattle.std.specs.Prelude.{IfSome, replicate}
 use Rattle.login_table.proofs.Searching.{within}
 use Rattle.orb_layout.specs.declared.ask.FailCause.TheVariants as causes
-use Rattle.orb_layout.specs.Replies.{Answer}
-use Rattle.rbc_disk.specs.declared.command.Outcome.{Outcome}
 use Rattle.rbc_disk.specs.declared.command.Outcome.TheVariants as outcomes
-use Rattle.rbc_disk.specs.Disk.{Disk, disk_at}
-use Rattle.rbc_disk.specs.Runs.{Told, answer_length_of, answer_of, left_by, told_in}
-use Rattle.rbc_disk.specs.Units.{PlainDisk}
-use Rattle.command_agent.specs.declared.step.AgentStep.{AgentStep}
-use Rattle.command_agent.specs.declared.step.Which.{Which}
-use Rattle.command_agent.specs.Machine.{Machine}
-use Rattle.command_agent.specs.Runs.{MayRun, MayTell}
-use Rattle.command_agent.specs.Steps.{reply_step}
-use Rattle.sbp_bus.specs.Words.{check_of}
-use Rattle.sbp_journal.specs.declared.side.Side.{Side}
 use Rattle.sbp_journal.specs.declared.side.Side.TheVariants as sides
-use Rattle.sbp_journal.specs.Outgoings.{empty_outbox}
-use Rattle.sbp_laws.specs.Targets.{Agent, told_of}
-use Rattle.sbp_target.specs.declared.desk.Desk.{Desk}
-use Rattle.sbp_target.specs.declared.purpose.Purpose.{Purpose}
+use Rattle.sbp_laws.specs.Targets.{told_of}
 use Rattle.sbp_target.specs.declared.purpose.Purpose.TheVariants as purposes
-use Rattle.sbp_target.specs.Agents.{follow}
-use Rattle.sbp_target.specs.Calls.{alone, lets_expire}
-use Rattle.sbp_target.specs.Desks.{expired_desk, new_desk, taken, which_in}
-use Rattle.sbp_target.specs.Nodes.{NodeState, desk_at, login_at, scene, with_desk}
-use Rattle.sbp_target.specs.Receiving.{TellsIn, answer_in, concluded, expire_agent, expired, expired_by, expired_in, expired_with, received, received_as, with_layer}
-use Rattle.sbp_target.specs.Replies.{Tells, TellsBy, advance, advanced_with, announced_by, came, changed_by, follow_all, plain_in, replied as step_replied, replied_by, replied_to, replied_with, served_login, stage, whole}
-use Rattle.sbp_target.specs.Telling.{orb_of, tell_ran}
+use Rattle.sbp_target.specs.Replies.{Tells}
 use Rattle.sbp_target.proofs.Histories.Calling.{Good}
-use Rattle.sbp_world.specs.Telling.{holder}
-use Rattle.sbp_world.specs.Worlds.{WorldState}
-use Rattle.sbp_world.specs.Agents.Alike.{TellsAlike}
-use Rattle.sbp_world.specs.Agents.Crews.{ToldAlike, answered}
-use Rattle.sbp_world.specs.Agents.Hands.{IsOfStep, IsRunOf, run_told, run_untold}
 use Rattle.sbp_world.proofs.Agents.Loads.{came_there}
 use Rattle.sbp_world.proofs.Agents.UnitsKept.{Keeps, KeepsSteps, announces_by, follows, keeps_steps, lost_runs, notes_tell}
 use Rattle.sbp_world.proofs.Agents.UnitsMarked.{came_not}

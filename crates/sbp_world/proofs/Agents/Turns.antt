@@ -1,32 +1,14 @@
 -- Each turn of an agent: a reply, a time-out, a write of ORB_POINTER or of DOORBELL.
-use Rattle.std.proofs.Common.{◌≡◌, ◌∙◌, refl, sym, ap, subst, ℕ, ◌<◌, ◌&&◌, ◌||◌, not, is_some, Bool, true, false, cond, List, Option, None}
-use Rattle.std.specs.Prelude.{slice_set}
-use Rattle.std.proofs.lemmas.Bool.{false≢true, true≢false}
-use Rattle.label_table.specs.Layer.{Layer}
-use Rattle.login_table.specs.declared.login.Login.{Login}
-use Rattle.orb_layout.specs.declared.ask.Ask.{Ask}
-use Rattle.rbc_disk.specs.Disk.{Disk, disk_at}
-use Rattle.rbc_disk.specs.Runs.{Told}
-use Rattle.command_agent.specs.declared.phase.Phase.{Phase}
+use Rattle.sbp_world.proofs.Words.Std.{◌≡◌, ◌∙◌, refl, sym, ap, subst, ℕ, ◌<◌, ◌&&◌, ◌||◌, not, is_some, Bool, true, false, cond, List, Option, None, slice_set, false≢true, true≢false}
+use Rattle.sbp_world.proofs.Words.Wire.{Layer, empty_outbox}
+use Rattle.sbp_world.proofs.Words.Target.{Login, Disk, disk_at, Told, Phase, AgentStep, Which, Ahead, Main, Machine, is_ahead, is_sent, quiet, Desk, follow, taken, NodeState, Scene, desk_at, scene, with_desk, expired_with, Stage, advanced_with, came, changed_by, follow_all, replied_with, scene_of, stage, whole}
+use Rattle.sbp_world.proofs.Words.Initiator.{Ask}
+use Rattle.sbp_world.proofs.Words.Laws.{Agent, agent_over, closed, moved, wants}
+use Rattle.sbp_world.proofs.Words.World.{Alike, AreOne, IsOf, Request, with_requests}
 use Rattle.command_agent.specs.declared.phase.Phase.TheVariants as phases
-use Rattle.command_agent.specs.declared.step.AgentStep.{AgentStep}
-use Rattle.command_agent.specs.declared.step.Which.{Which}
-use Rattle.command_agent.specs.declared.step.Which.TheVariants.{Ahead, Main}
-use Rattle.command_agent.specs.Machine.{Machine, is_ahead, is_sent}
-use Rattle.command_agent.specs.Steps.{quiet}
-use Rattle.sbp_journal.specs.Outgoings.{empty_outbox}
-use Rattle.sbp_laws.specs.Targets.{Agent, agent_over, closed, moved, wants}
-use Rattle.sbp_target.specs.declared.desk.Desk.{Desk}
-use Rattle.sbp_target.specs.Agents.{follow}
-use Rattle.sbp_target.specs.Desks.{taken}
-use Rattle.sbp_target.specs.Nodes.{NodeState, Scene, desk_at, scene, with_desk}
-use Rattle.sbp_target.specs.Receiving.{expired_with}
-use Rattle.sbp_target.specs.Replies.{Stage, advanced_with, came, changed_by, follow_all, replied_with, scene_of, stage, whole}
 use Rattle.sbp_target.proofs.Histories.Calling.{Good, not_eight}
 use Rattle.sbp_target.proofs.Histories.Following.{Fits}
 use Rattle.sbp_target.proofs.Histories.Stepped.{Behind, Over, is_asked}
-use Rattle.sbp_world.specs.Agents.Alike.{Alike}
-use Rattle.sbp_world.specs.Agents.Crews.{AreOne, IsOf, Request, with_requests}
 use Rattle.sbp_world.proofs.Agents.Announces.{Ended, announces, done_ended}
 use Rattle.sbp_world.proofs.Agents.Follows.{Done, Settled, Stepped, follows, over_idle}
 use Rattle.sbp_world.proofs.Agents.Mild.{Mild}

@@ -1,25 +1,14 @@
 -- In every run the units of the terms are the target's, with what their media hold.
-use Rattle.std.proofs.Common.{arith, ◌≡◌, ◌∙◌, refl, sym, ap, subst, ℕ, zero, suc, ◌+◌, ◌^◌, ◌<◌, ◌≤◌, List, [], ◌∷◌, ◌++◌, length, map}
+use Rattle.sbp_world.proofs.Words.Std.{arith, ◌≡◌, ◌∙◌, refl, sym, ap, subst, ℕ, zero, suc, ◌+◌, ◌^◌, ◌<◌, ◌≤◌, List, [], ◌∷◌, ◌++◌, length, map, length-replicate}
+use Rattle.sbp_world.proofs.Words.Wire.{Moment, asked, said}
+use Rattle.sbp_world.proofs.Words.Target.{Disk, new_unit, plain_in}
+use Rattle.sbp_world.proofs.Words.Laws.{first_units, unit_at, target_at}
+use Rattle.sbp_world.proofs.Words.World.{moments_behind, happens, new_world, ready_logins, AreEntries, Entry, Run, after, beginning, after_all, AreLines, WorldState, begun, AreUnitsAt, UnitsBetweenLaw, UnitsLaw}
 use Rattle.std.specs.Prelude.{replicate}
-use Rattle.std.proofs.lemmas.List.{length-replicate}
-use Rattle.rbc_disk.specs.Disk.{Disk}
-use Rattle.rbc_disk.specs.Units.{new_unit}
-use Rattle.sbp_journal.specs.Run.{Moment, asked, said}
-use Rattle.sbp_laws.specs.DiskFold.{first_units, unit_at}
-use Rattle.sbp_laws.specs.Targets.{target_at}
-use Rattle.sbp_target.specs.Replies.{plain_in}
-use Rattle.sbp_world.specs.Histories.{moments_behind}
-use Rattle.sbp_world.specs.Lines.{happens}
-use Rattle.sbp_world.specs.Making.{new_world, ready_logins}
-use Rattle.sbp_world.specs.Runs.{AreEntries, Entry, Run, after, beginning}
-use Rattle.sbp_world.specs.Settling.{after_all}
-use Rattle.sbp_world.specs.Wire.Lines.{AreLines}
-use Rattle.sbp_world.specs.Worlds.{WorldState, begun}
 use Rattle.sbp_world.proofs.Wire.ToldBytes.{happened_fits}
 use Rattle.sbp_world.proofs.Agents.Management.Lines.{opens}
 use Rattle.sbp_world.proofs.Agents.Management.Runs.{holds_after, no_repeats, not_reset}
 use Rattle.sbp_world.proofs.Agents.Management.Still.{hist}
-use Rattle.sbp_world.specs.Agents.Units.{AreUnitsAt, UnitsBetweenLaw, UnitsLaw}
 use Rattle.sbp_world.proofs.Agents.Holders.{seats_after}
 use Rattle.sbp_world.proofs.Agents.Seating.{opened as opened_seats}
 use Rattle.sbp_world.proofs.Agents.UnitsLines.{all_units, line_units, opened}

@@ -1,46 +1,22 @@
 -- A turn of the management operation leaves the units, with what their media hold, as what it tells makes of their terms: a unit reset and a target reset
 -- clear them over the logins that stood before the decision, and no other decision changes any.
-use Rattle.std.proofs.Common.{arith, ◌≡◌, ◌∙◌, refl, sym, ap, subst, ℕ, zero, suc, ◌+◌, ◌<◌, ◌==◌, nat_lt, not, Bool, true, false, cond, List, [], ◌∷◌, ◌++◌, length, Option, Some, None, Result, Ok, Err}
-use Rattle.std.specs.Prelude.{slice_set}
-use Rattle.std.proofs.Math.ListN.{length-set}
-use Rattle.std.proofs.lemmas.Bool.Decides.{nat_tests}
-use Rattle.std.proofs.lemmas.List.{set-get_or}
-use Rattle.login_table.specs.declared.login.Entered.{Entered}
-use Rattle.login_table.specs.declared.login.Login.{Login}
-use Rattle.login_table.specs.declared.login.LoginRefusal.{LoginRefusal}
-use Rattle.login_table.specs.Sound.{IsSound}
-use Rattle.login_table.specs.Table.{Table, back_step, enter_step, leave_step, units_places}
-use Rattle.mgmt_agent.specs.declared.decision.Decision.{Decision}
-use Rattle.mgmt_agent.specs.declared.decision.Effect.{Effect}
+use Rattle.sbp_world.proofs.Words.Std.{arith, ◌≡◌, ◌∙◌, refl, sym, ap, subst, ℕ, zero, suc, ◌+◌, ◌<◌, ◌==◌, nat_lt, not, Bool, true, false, cond, List, [], ◌∷◌, ◌++◌, length, Option, Some, None, Result, Ok, Err, slice_set, length-set, nat_tests, set-get_or}
+use Rattle.sbp_world.proofs.Words.Wire.{Side, OutboxState, empty_outbox}
+use Rattle.sbp_world.proofs.Words.Target.{Entered, Login, LoginRefusal, IsSound, Table, back_step, enter_step, leave_step, units_places, Decision, Effect, ManagerStep, Function, Operation, asked_by, back_decided, decide, decide_function, key_at, lacks_key, left_decided, login_decided, reads_eui, unit_exists, with_status, beside, decide_step, eui_step, high_eui_at, high_got, low_got, orb_got, reply_in, reply_to, response_written, status_written, function_of, Disk, no_disk, PlainDisk, UnitState, ask_manager, clear_one, cut_placed, decided_by, effect_by, failed_by, manage, managed_in, managed_with, place_in, tell_left, with_manager, NodeState, Scene, scene, clear_from, clear_unit, cut_all, mask_of}
+use Rattle.sbp_world.proofs.Words.Initiator.{FailCause, ManagementOrb, management_orb, Answer, payload_of}
+use Rattle.sbp_world.proofs.Words.Laws.{left_by_reset, places_of, unit_at}
 use Rattle.mgmt_agent.specs.declared.decision.Effect.TheVariants as effects
-use Rattle.mgmt_agent.specs.declared.decision.ManagerStep.{ManagerStep}
 use Rattle.mgmt_agent.specs.declared.decision.Outcome.{Outcome}
-use Rattle.mgmt_agent.specs.declared.function.Function.{Function}
 use Rattle.mgmt_agent.specs.declared.function.Function.TheVariants as functions
-use Rattle.mgmt_agent.specs.declared.operation.Operation.{Operation}
 use Rattle.mgmt_agent.specs.declared.operation.Phase.{Phase}
 use Rattle.mgmt_agent.specs.declared.operation.Phase.TheVariants as phases
 use Rattle.mgmt_agent.specs.declared.status.Status.TheVariants as statuses
-use Rattle.mgmt_agent.specs.Decisions.{asked_by, back_decided, decide, decide_function, key_at, lacks_key, left_decided, login_decided, reads_eui, unit_exists, with_status}
 use Rattle.mgmt_agent.specs.Machine as management
-use Rattle.mgmt_agent.specs.Machine.{Machine, beside, decide_step, eui_step, high_eui_at, high_got, low_got, orb_got, reply_in, reply_step, reply_to, response_written, status_written}
-use Rattle.mgmt_agent.specs.Statuses.{function_of}
-use Rattle.orb_layout.specs.declared.ask.FailCause.{FailCause}
-use Rattle.orb_layout.specs.declared.management.ManagementOrb.{ManagementOrb}
-use Rattle.orb_layout.specs.ManagementOrbs.{management_orb}
-use Rattle.orb_layout.specs.Replies.{Answer, payload_of}
-use Rattle.rbc_disk.specs.Disk.{Disk, no_disk}
-use Rattle.rbc_disk.specs.Units.{PlainDisk, UnitState, cleared}
+use Rattle.mgmt_agent.specs.Machine.{Machine, reply_step}
+use Rattle.rbc_disk.specs.Units.{cleared}
 use Rattle.sbp_journal.specs.declared.cause.CutCause.TheVariants as cuts
-use Rattle.sbp_journal.specs.declared.side.Side.{Side}
 use Rattle.sbp_journal.specs.declared.side.Side.TheVariants as sides
-use Rattle.sbp_journal.specs.Outgoings.{OutboxState, empty_outbox}
-use Rattle.sbp_laws.specs.DiskFold.{left_by_reset, places_of, unit_at}
-use Rattle.sbp_target.specs.Management.{ask_manager, clear_one, cut_placed, decided_by, effect_by, failed_by, manage, managed_in, managed_with, place_in, tell_left, with_manager}
-use Rattle.sbp_target.specs.Nodes.{NodeState, Scene, scene}
 use Rattle.sbp_target.specs.Nodes as nodes
-use Rattle.sbp_target.specs.Units.{clear_from, clear_unit, cut_all}
-use Rattle.target_base.specs.Places.{mask_of}
 use Rattle.sbp_world.proofs.Agents.UnitsKept.{In, Keeps, KeepsCuts, asks_manager, cuts_all, cuts_placed, failed_tells, keeps_cuts, tells}
 use Rattle.sbp_world.proofs.Agents.UnitsMarked.{all_mask}
 use Rattle.sbp_world.proofs.Agents.UnitsRun.{Leaves, Match, in_leaves, makes_keeps, match_set, nothing_makes}

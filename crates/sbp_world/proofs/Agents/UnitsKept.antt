@@ -1,41 +1,13 @@
 -- What the target tells and what it leaves of its units, as it follows a step of an agent, cuts lists, announces a disc and serves a request: its units
 -- and its logins stay as they are, and what it tells is of no unit.
-use Rattle.std.proofs.Common.{◌≡◌, ◌∙◌, refl, sym, ℕ, zero, suc, ◌+◌, Bool, true, false, cond, List, [], ◌∷◌, ◌++◌, Option, Some, None}
-use Rattle.std.specs.Prelude.{slice_index_or}
-use Rattle.std.proofs.lemmas.Option.{none-some}
-use Rattle.async_packet.specs.Labels.{LabelParts}
-use Rattle.async_packet.specs.Packet.{Packet, header_in}
-use Rattle.label_table.specs.Layer.{Layer, answering_step}
-use Rattle.login_table.specs.declared.login.Login.{Login}
-use Rattle.login_table.specs.Table.{Table, is_live, place_at}
-use Rattle.orb_layout.specs.declared.ask.Ask.{Ask}
-use Rattle.orb_layout.specs.declared.ask.FailCause.{FailCause}
-use Rattle.orb_layout.specs.declared.status.StatusKind.{StatusKind}
-use Rattle.rbc_disk.specs.declared.command.Outcome.{Outcome}
-use Rattle.rbc_disk.specs.Units.{UnitState}
-use Rattle.command_agent.specs.declared.phase.Phase.{Phase}
+use Rattle.sbp_world.proofs.Words.Std.{◌≡◌, ◌∙◌, refl, sym, ℕ, zero, suc, ◌+◌, Bool, true, false, cond, List, [], ◌∷◌, ◌++◌, Option, Some, None, slice_index_or, none-some}
+use Rattle.sbp_world.proofs.Words.Wire.{LabelParts, Packet, header_in, Layer, answering_step, CutCause, Side, OutboxState}
+use Rattle.sbp_world.proofs.Words.Target.{Login, Table, is_live, place_at, Outcome, UnitState, Phase, AgentStep, Which, Ahead, Main, Machine, is_ahead, state_in, ahead_lost, is_reset, lost, lost_step, main_lost, quiet, Purpose, cut, told_cut, follow, noted, Kind, MayAct, Moves, Tells, announced, back, cleared, departed, died, ended, failed, go_on, lapsed, managed, opened, plain, ran, serving, stay, unsent, was_cut, ask_manager, cut_placed, tell_failed, Scene, desk_at, scene, expire_agent, expired_from, held_from, tell_held, announced_by, answer_step, answered_by, with_side, answered, served_step, orb_of, tell_dead, tell_ended, tell_ran, tell_step, cut_all}
+use Rattle.sbp_world.proofs.Words.Initiator.{Ask, FailCause, StatusKind}
 use Rattle.command_agent.specs.declared.phase.Phase.TheVariants as phases
-use Rattle.command_agent.specs.declared.step.AgentStep.{AgentStep}
-use Rattle.command_agent.specs.declared.step.Which.{Which}
-use Rattle.command_agent.specs.declared.step.Which.TheVariants.{Ahead, Main}
-use Rattle.command_agent.specs.Machine.{Machine, is_ahead, state_in}
-use Rattle.command_agent.specs.Steps.{ahead_lost, is_reset, lost, lost_step, main_lost, quiet}
-use Rattle.sbp_journal.specs.declared.cause.CutCause.{CutCause}
-use Rattle.sbp_journal.specs.declared.side.Side.{Side}
 use Rattle.sbp_journal.specs.declared.side.Side.TheVariants as sides
-use Rattle.sbp_journal.specs.Outgoings.{OutboxState}
-use Rattle.sbp_target.specs.declared.purpose.Purpose.{Purpose}
-use Rattle.sbp_target.specs.Agents.{cut, told_cut, follow, noted}
-use Rattle.sbp_target.specs.Histories.Moves.{Kind, MayAct, Move, Moves, Tells, announced, back, cleared, departed, died, ended, failed, go_on, held, lapsed, managed, opened, plain, ran, serving, stay, unsent, was_cut}
+use Rattle.sbp_target.specs.Histories.Moves.{Move, held}
 use Rattle.sbp_target.specs.Histories.Moves as moves
-use Rattle.sbp_target.specs.Management.{ask_manager, cut_placed, tell_failed}
-use Rattle.sbp_target.specs.Nodes.{Scene, desk_at, scene}
-use Rattle.sbp_target.specs.Receiving.{expire_agent, expired_from, held_from, tell_held}
-use Rattle.sbp_target.specs.Replies.{announced_by}
-use Rattle.sbp_target.specs.Sending.{answer_step, answered_by, with_side}
-use Rattle.sbp_target.specs.Serving.{answered, request_step as served_step}
-use Rattle.sbp_target.specs.Telling.{orb_of, tell_dead, tell_ended, tell_ran, tell_step}
-use Rattle.sbp_target.specs.Units.{cut_all}
 use Rattle.sbp_target.proofs.Histories.Moved.{announced_moves, ask_manager_moves, behind_moves, expire_agent_moves, request_moves}
 use Rattle.sbp_target.proofs.Histories.Views.{cuts_keep, node_left, placed_keep, sides_kept}
 use Rattle.sbp_world.proofs.Agents.UnitsTold.{Spares}

@@ -1,21 +1,10 @@
 -- The marks of the laws and those of the target: the places of a unit's logins as a list and as a mask; and a disc came into the tray exactly where a good
 -- load moved one.
-use Rattle.std.proofs.Common.{arith, ◌≡◌, ◌∙◌, refl, sym, ap, ℕ, suc, ◌+◌, ◌^◌, ◌==◌, ◌&&◌, nat_eq, not, Bool, true, false, cond, List, [], ◌∷◌, length, Option, Some, None, Result, Ok, Err}
-use Rattle.std.specs.List.{cons_option}
-use Rattle.login_table.specs.declared.login.Login.{Login}
-use Rattle.login_table.specs.Sound.{IsSound}
-use Rattle.login_table.specs.Table.{place_at, units_places}
+use Rattle.sbp_world.proofs.Words.Std.{arith, ◌≡◌, ◌∙◌, refl, sym, ap, ℕ, suc, ◌+◌, ◌^◌, ◌==◌, ◌&&◌, nat_eq, not, Bool, true, false, cond, List, [], ◌∷◌, length, Option, Some, None, Result, Ok, Err, cons_option}
+use Rattle.sbp_world.proofs.Words.Target.{Login, IsSound, place_at, units_places, Sense, Disc, Disk, ejected, loaded, loads, is_load, request_of, medium_after, medium_after_good, medium_ended, UnitState, plain_disk, Request, came, is_of_unit, is_place, mask_of}
+use Rattle.sbp_world.proofs.Words.Laws.{all_but, asks_load, is_good, moves_disc, places_of}
 use Rattle.rbc_command.specs.declared.command.Command.TheVariants as commands
-use Rattle.rbc_command.specs.declared.sense.Sense.{Sense}
-use Rattle.rbc_disk.specs.Disk.{Disc, Disk, ejected, loaded, loads}
-use Rattle.rbc_disk.specs.Requests.{is_load, request_of}
-use Rattle.rbc_disk.specs.Runs.{medium_after, medium_after_good, medium_ended}
-use Rattle.rbc_disk.specs.Units.{UnitState, plain_disk}
-use Rattle.rbc_disk.specs.declared.request.Request.{Request}
 use Rattle.rbc_disk.specs.declared.request.Request.TheVariants as requests
-use Rattle.sbp_laws.specs.DiskFold.{all_but, asks_load, is_good, moves_disc, places_of}
-use Rattle.sbp_target.specs.Replies.{came}
-use Rattle.target_base.specs.Places.{is_of_unit, is_place, mask_of}
 use Rattle.sbp_world.proofs.Wire.Shares.{flip}
 
 -- ---- masks

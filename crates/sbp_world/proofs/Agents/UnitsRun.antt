@@ -1,41 +1,13 @@
 -- A reply to an agent leaves its unit, with what its medium holds, as what it tells makes of the unit's term.
-use Rattle.std.proofs.Common.{arith, ◌≡◌, ◌≢◌, ◌∙◌, refl, sym, ap, subst, ℕ, ◌<◌, nat_eq, nat_lt, Bool, true, false, cond, List, [], ◌∷◌, ◌++◌, length, Option, Some, None, Result, Ok, Err}
-use Rattle.std.specs.Prelude.{slice_index_or, slice_set}
-use Rattle.std.proofs.Math.ListN.{length-set}
-use Rattle.std.proofs.lemmas.Bool.Decides.{nat_tests}
-use Rattle.std.proofs.lemmas.List.{get_or-set_same, set-get_or, set-set}
-use Rattle.async_packet.specs.Labels.{LabelParts}
+use Rattle.sbp_world.proofs.Words.Std.{arith, ◌≡◌, ◌≢◌, ◌∙◌, refl, sym, ap, subst, ℕ, ◌<◌, nat_eq, nat_lt, Bool, true, false, cond, List, [], ◌∷◌, ◌++◌, length, Option, Some, None, Result, Ok, Err, slice_index_or, slice_set, length-set, nat_tests, get_or-set_same, set-get_or, set-set}
+use Rattle.sbp_world.proofs.Words.Wire.{LabelParts, Side, empty_outbox}
+use Rattle.sbp_world.proofs.Words.Target.{Login, IsSound, Table, place_at, units_places, Outcome, Disk, disk_at, no_disk, Told, after_run, check_in, left_by, PlainDisk, UnitState, changed_for, new_unit, plain_disk, Phase, AgentStep, Which, Ahead, Main, Machine, is_ahead, state_in, advanced, ahead_read, ahead_step, is_reset, quiet, reply_step, served, told_or, Desk, follow, new_desk, taken, which_in, NodeState, Scene, desk_at, login_at, scene, with_desk, advance, advanced_with, announced_by, came, changed_by, follow_all, plain_in, step_replied, replied_by, replied_to, replied_with, scene_of, served_login, stage, whole, orb_of, tell_ran, if_served, mask_of}
+use Rattle.sbp_world.proofs.Words.Initiator.{FailCause, Answer, payload_of}
+use Rattle.sbp_world.proofs.Words.Laws.{all_but, left_by_run, marked, moves_disc, places_of, unit_at, unit_in}
 use Rattle.label_table.proofs.Owned.{set_at}
-use Rattle.login_table.specs.declared.login.Login.{Login}
-use Rattle.login_table.specs.Sound.{IsSound}
-use Rattle.login_table.specs.Table.{Table, place_at, units_places}
 use Rattle.login_table.proofs.Searching.{within}
-use Rattle.orb_layout.specs.declared.ask.FailCause.{FailCause}
-use Rattle.orb_layout.specs.Replies.{Answer, payload_of}
-use Rattle.rbc_disk.specs.declared.command.Outcome.{Outcome}
-use Rattle.rbc_disk.specs.Disk.{Disk, disk_at, no_disk}
-use Rattle.rbc_disk.specs.Runs.{Told, after_run, check_in, left_by}
-use Rattle.rbc_disk.specs.Units.{PlainDisk, UnitState, changed_for, new_unit, plain_disk}
-use Rattle.command_agent.specs.declared.phase.Phase.{Phase}
 use Rattle.command_agent.specs.declared.phase.Phase.TheVariants as phases
-use Rattle.command_agent.specs.declared.step.AgentStep.{AgentStep}
-use Rattle.command_agent.specs.declared.step.Which.{Which}
-use Rattle.command_agent.specs.declared.step.Which.TheVariants.{Ahead, Main}
-use Rattle.command_agent.specs.Machine.{Machine, is_ahead, state_in}
-use Rattle.command_agent.specs.Steps.{advanced, ahead_read, ahead_step, is_reset, quiet, reply_step, served, told_or}
-use Rattle.sbp_journal.specs.declared.side.Side.{Side}
 use Rattle.sbp_journal.specs.declared.side.Side.TheVariants as sides
-use Rattle.sbp_journal.specs.Outgoings.{empty_outbox}
-use Rattle.sbp_laws.specs.DiskFold.{all_but, left_by_run, marked, moves_disc, places_of, unit_at}
-use Rattle.sbp_laws.specs.Targets.{unit_in}
-use Rattle.sbp_target.specs.declared.desk.Desk.{Desk}
-use Rattle.sbp_target.specs.Agents.{follow}
-use Rattle.sbp_target.specs.Desks.{new_desk, taken, which_in}
-use Rattle.sbp_target.specs.Nodes.{NodeState, Scene, desk_at, login_at, scene, with_desk}
-use Rattle.sbp_target.specs.Replies.{advance, advanced_with, announced_by, came, changed_by, follow_all, plain_in, replied as step_replied, replied_by, replied_to, replied_with, scene_of, served_login, stage, whole}
-use Rattle.sbp_target.specs.Telling.{orb_of, tell_ran}
-use Rattle.target_base.specs.Logins.{if_served}
-use Rattle.target_base.specs.Places.{mask_of}
 use Rattle.sbp_target.proofs.Histories.Calling.{Good}
 use Rattle.sbp_world.proofs.Agents.UnitsKept.{In, Keeps, announces_by, follows, keeps_steps, notes_tell, runs_if}
 use Rattle.sbp_world.proofs.Agents.UnitsMarked.{came_not, others_mask, run_came}

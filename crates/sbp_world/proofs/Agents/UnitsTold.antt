@@ -1,52 +1,19 @@
 -- What the notes of a history make of the units of its terms: a run leaves its unit as the laws say, a cleared unit is reset, and no other note changes any.
-use Rattle.std.proofs.Common.{◌≡◌, ◌∙◌, refl, sym, ap, ℕ, ◌+◌, ◌==◌, not, Bool, true, false, cond, List, [], ◌∷◌, ◌++◌, map, Option, Some, None, Result, Ok, Err}
-use Rattle.std.specs.Prelude.{is_none, position, slice_set, unwrap_or}
-use Rattle.async_packet.specs.Labels.{LabelParts}
-use Rattle.login_table.specs.declared.login.Login.{Login}
-use Rattle.login_table.specs.Table.{Table, is_live, place_at}
-use Rattle.mgmt_agent.specs.declared.decision.Effect.{Effect}
+use Rattle.sbp_world.proofs.Words.Std.{◌≡◌, ◌∙◌, refl, sym, ap, ℕ, ◌+◌, ◌==◌, not, Bool, true, false, cond, List, [], ◌∷◌, ◌++◌, map, Option, Some, None, Result, Ok, Err, is_none, position, slice_set, unwrap_or}
+use Rattle.sbp_world.proofs.Words.Wire.{LabelParts, Holder, node_of, topology_at, counted, ran_note, function_word, login_if, Access, Register, agent_state, agent_reset, orb_pointer, doorbell, unsolicited_enable, Start, rom_start, management_agent, register, no_start, start_at, start_serves, OutboxState, Moment, said, Part, part_of, request, response, Terms, terms, Cause, Event, Note, Outgoing, Side}
+use Rattle.sbp_world.proofs.Words.Target.{Login, Table, is_live, place_at, Effect, ManagerStep, Busy, Outcome, Disk, Told, check_in, PlainDisk}
+use Rattle.sbp_world.proofs.Words.Initiator.{Ask, Nothing, FailCause, offset_at, Answer, Expired}
+use Rattle.sbp_world.proofs.Words.Laws.{left_by_reset, left_by_run, unit_at, access_at, access_in_bytes, answer_in, answered_at, id_for, packet_at, receiver_in, sender_in, event_of, Decided, Purpose, Reply, Target, agent_at, decided_by, effect_on, entered_by, enters_in, for_agent, for_manager, for_nobody, going_on, got_by, is_own_run, is_serial, is_write_access, keep_decided, key_by, known_at, managed_by, manager_step, over, place_on, points, purpose_of, ran_on, register_got, replied, replied_to, request_got, reset_seen, sent_as, sent_for, start_got, started_by, taken_on, target_at, target_by, unit_in, wants, wants_it, with_agent}
+use Rattle.sbp_world.proofs.Words.World.{handed_out, asked, posted, sent, sent_all, sent_to, holder, initiator_of, ticket_at, told, told_all, WorldState, with_note, Office}
 use Rattle.mgmt_agent.specs.declared.decision.Effect.TheVariants as effects
-use Rattle.mgmt_agent.specs.declared.decision.ManagerStep.{ManagerStep}
-use Rattle.mgmt_agent.specs.declared.operation.Busy.{Busy}
 use Rattle.mgmt_agent.specs.Machine as manager
-use Rattle.orb_layout.specs.declared.ask.Ask.{Ask}
-use Rattle.orb_layout.specs.declared.ask.Ask.TheVariants.{Nothing}
-use Rattle.orb_layout.specs.declared.ask.FailCause.{FailCause}
 use Rattle.orb_layout.specs.declared.ask.FailCause.TheVariants as causes
-use Rattle.orb_layout.specs.Pointers.{offset_at}
-use Rattle.orb_layout.specs.Replies.{Answer, Expired}
-use Rattle.rbc_disk.specs.declared.command.Outcome.{Outcome}
-use Rattle.rbc_disk.specs.Disk.{Disk}
-use Rattle.rbc_disk.specs.Runs.{Told, check_in}
-use Rattle.rbc_disk.specs.Units.{PlainDisk}
-use Rattle.sbp_bus.specs.declared.places.Holder.{Holder}
-use Rattle.sbp_bus.specs.Generations.{node_of, topology_at}
-use Rattle.sbp_bus.specs.Telling.{counted, ran_note}
-use Rattle.sbp_bus.specs.Words.{function_word, login_if}
-use Rattle.sbp_journal.specs.Addresses.{Access, Register, agent_state, agent_reset, orb_pointer, doorbell, unsolicited_enable, Start, rom_start, management_agent, register, no_start, start_at, start_serves}
-use Rattle.sbp_journal.specs.Outgoings.{OutboxState}
-use Rattle.sbp_journal.specs.Run.{Moment, said}
-use Rattle.sbp_journal.specs.Transactions.{Part, no_packet, part_of, request, response}
-use Rattle.sbp_journal.specs.Wire.{Terms, terms}
-use Rattle.sbp_journal.specs.declared.cause.Cause.{Cause}
-use Rattle.sbp_journal.specs.declared.event.Event.{Event}
+use Rattle.sbp_journal.specs.Transactions.{no_packet}
 use Rattle.sbp_journal.specs.declared.event.Event.TheVariants as events
-use Rattle.sbp_journal.specs.declared.note.Note.{Note}
 use Rattle.sbp_journal.specs.declared.note.Note.TheVariants as notes
 use Rattle.sbp_journal.specs.declared.operation.FunctionWord.TheVariants as words
-use Rattle.sbp_journal.specs.declared.outbox.Outgoing.{Outgoing}
-use Rattle.sbp_journal.specs.declared.side.Side.{Side}
 use Rattle.sbp_journal.specs.declared.side.Side.TheVariants as sides
-use Rattle.sbp_laws.specs.DiskFold.{left_by_reset, left_by_run, unit_at}
-use Rattle.sbp_laws.specs.Packets.{access_at, access_in_bytes, answer_in, answered_at, id_for, packet_at, receiver_in, sender_in}
-use Rattle.sbp_laws.specs.Turns.{event_of}
 use Rattle.sbp_laws.proofs.Going.{AgentsAlone, going_alone, run_alone, taken_alone}
-use Rattle.sbp_laws.specs.Targets.{Decided, Purpose, Reply, Target, agent_at, decided_by, effect_on, entered_by, enters_in, for_agent, for_manager, for_nobody, going_on, got_by, is_own_run, is_serial, is_write_access, keep_decided, key_by, known_at, managed_by, manager_step, over, place_on, points, purpose_of, ran_on, register_got, replied, replied_to, request_got, reset_seen, sent_as, sent_for, start_got, started_by, taken_on, target_at, target_by, unit_in, wants, wants_it, with_agent}
-use Rattle.sbp_world.specs.Handing.{handed_out}
-use Rattle.sbp_world.specs.Sending.{asked, posted, sent, sent_all, sent_to}
-use Rattle.sbp_world.specs.Telling.{holder, initiator_of, ticket_at, told, told_all}
-use Rattle.sbp_world.specs.Worlds.{WorldState, with_note}
-use Rattle.sbp_world.specs.Agents.Management.Offices.{Office}
 use Rattle.sbp_world.proofs.Agents.Management.Firsts.{wire_is}
 use Rattle.sbp_world.proofs.Formed.{AreOwn, IsNoRun, IsOwn}
 use Rattle.sbp_world.proofs.Agents.Management.Still.{hist}

@@ -1,28 +1,11 @@
 -- Each call of a target leaves the units, with what their media hold, as what it tells makes of their terms.
-use Rattle.std.proofs.Common.{◌≡◌, refl, ℕ, Bool, true, false, List, [], length, Option, Some, None, Result, Ok, Err}
-use Rattle.async_packet.specs.Labels.{LabelParts}
-use Rattle.async_packet.specs.Packet.{header_in}
-use Rattle.label_table.specs.declared.reply.Stale.{Stale}
-use Rattle.label_table.specs.Layer.{Finding, Layer, of_again, of_generation, of_grammar, of_label, of_request, of_response, expiring_step, judging_step, seeing_step}
-use Rattle.login_table.specs.declared.login.Login.{Login}
-use Rattle.login_table.specs.Sound.{IsSound}
-use Rattle.login_table.specs.Table.{Table, tick_step}
-use Rattle.orb_layout.specs.Replies.{Answer, Expired}
-use Rattle.rbc_disk.specs.Disk.{Disk}
-use Rattle.rbc_disk.specs.Runs.{Told}
-use Rattle.rbc_disk.specs.Units.{PlainDisk}
+use Rattle.sbp_world.proofs.Words.Std.{◌≡◌, refl, ℕ, Bool, true, false, List, [], length, Option, Some, None, Result, Ok, Err}
+use Rattle.sbp_world.proofs.Words.Wire.{LabelParts, header_in, Stale, Finding, Layer, of_again, of_generation, of_grammar, of_label, of_request, of_response, expiring_step, judging_step, seeing_step, Judged, Side, empty_outbox}
+use Rattle.sbp_world.proofs.Words.Target.{Login, IsSound, Table, tick_step, Disk, Told, PlainDisk, Purpose, alone, lets_expire, sees, ticks, NodeState, Scene, scene, answer_in, cleared_node, concluded, expired, expired_in, judged_scene, received, received_as, reset_by, seen, ticked, ticked_by, timed_out, scene_of, whole, answered, cut_all}
+use Rattle.sbp_world.proofs.Words.Initiator.{Answer, Expired}
 use Rattle.sbp_journal.specs.declared.cause.CutCause.TheVariants as cuts
-use Rattle.sbp_journal.specs.declared.cause.Judged.{Judged}
-use Rattle.sbp_journal.specs.declared.side.Side.{Side}
-use Rattle.sbp_journal.specs.Outgoings.{empty_outbox}
-use Rattle.sbp_target.specs.declared.purpose.Purpose.{Purpose}
 use Rattle.sbp_target.specs.declared.purpose.Purpose.TheVariants as purposes
-use Rattle.sbp_target.specs.Calls.{alone, lets_expire, sees, ticks}
-use Rattle.sbp_target.specs.Nodes.{NodeState, Scene, scene}
-use Rattle.sbp_target.specs.Receiving.{answer_in, cleared_node, concluded, expired, expired_in, judged_scene, received, received_as, reset_by, seen, ticked, ticked_by, timed_out}
-use Rattle.sbp_target.specs.Replies.{scene_of, whole}
-use Rattle.sbp_target.specs.Serving.{answered, request_step}
-use Rattle.sbp_target.specs.Units.{cut_all}
+use Rattle.sbp_target.specs.Serving.{request_step}
 use Rattle.sbp_target.proofs.Histories.Calling.{Good}
 use Rattle.sbp_world.proofs.Agents.UnitsCleared.{manage_leaves}
 use Rattle.sbp_world.proofs.Agents.UnitsKept.{In, Keeps, answers, cuts_all, expires_agent, holds_tell, keeps_cuts, request_tells, seconds_tell}

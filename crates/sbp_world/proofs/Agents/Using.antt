@@ -1,27 +1,14 @@
 -- What the target tells of its agents uses up the registers of the terms as its own: an unsolicited status is of the place that the terms find by the unit of
 -- the latest run and by the initiator.
-use Rattle.std.proofs.Common.{arith, ◌≡◌, ◌∙◌, refl, sym, ap, subst, ℕ, ◌+◌, ◌<◌, ◌≤◌, nat_eq, nat_lt, Bool, true, false, cond, List, [], ◌∷◌, length, Option, Some, None}
-use Rattle.std.specs.Prelude.{slice_index_or, slice_set, unwrap_or}
-use Rattle.std.proofs.lemmas.Bool.Decides.{nat_tests}
-use Rattle.std.proofs.lemmas.List.{length-set, set_past}
-use Rattle.std.proofs.lemmas.Bool.{false≢true}
+use Rattle.sbp_world.proofs.Words.Std.{arith, ◌≡◌, ◌∙◌, refl, sym, ap, subst, ℕ, ◌+◌, ◌<◌, ◌≤◌, nat_eq, nat_lt, Bool, true, false, cond, List, [], ◌∷◌, length, Option, Some, None, slice_index_or, slice_set, unwrap_or, nat_tests, set_past, false≢true}
+use Rattle.sbp_world.proofs.Words.Wire.{Holder, holder_at, opened_by, opened_step, or_nobody, place_in, check_of, Moment, Note, Side}
+use Rattle.sbp_world.proofs.Words.Target.{Login, Table, find, is_of_node, Disk}
+use Rattle.sbp_world.proofs.Words.Laws.{id_for, last_unit, place_on}
+use Rattle.sbp_world.proofs.Words.World.{holder, told, told_all, WorldState, with_note, Office}
+use Rattle.std.proofs.lemmas.List.{length-set}
 use Rattle.label_table.proofs.Owned.{set_at}
-use Rattle.login_table.specs.declared.login.Login.{Login}
-use Rattle.login_table.specs.Table.{Table, find, is_of_node}
-use Rattle.rbc_disk.specs.Disk.{Disk}
-use Rattle.sbp_bus.specs.declared.places.Holder.{Holder}
-use Rattle.sbp_bus.specs.Places.{holder_at, opened_by, opened_step, or_nobody, place_in}
-use Rattle.sbp_bus.specs.Words.{check_of}
-use Rattle.sbp_journal.specs.Run.{Moment}
-use Rattle.sbp_journal.specs.declared.note.Note.{Note}
 use Rattle.sbp_journal.specs.declared.note.Note.TheVariants as notes
-use Rattle.sbp_journal.specs.declared.side.Side.{Side}
 use Rattle.sbp_journal.specs.declared.side.Side.TheVariants as sides
-use Rattle.sbp_laws.specs.Packets.{id_for}
-use Rattle.sbp_laws.specs.Targets.{last_unit, place_on}
-use Rattle.sbp_world.specs.Telling.{holder, told, told_all}
-use Rattle.sbp_world.specs.Worlds.{WorldState, with_note}
-use Rattle.sbp_world.specs.Agents.Management.Offices.{Office}
 use Rattle.sbp_world.proofs.Agents.Management.Told.{office_in, one_note as office_note, term_in}
 use Rattle.sbp_world.proofs.Agents.Management.Still.{hist}
 use Rattle.sbp_world.proofs.Agents.Disabling.{IsStill, enabled_in, one_note, wire_in}

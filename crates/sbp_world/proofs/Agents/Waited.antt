@@ -1,10 +1,8 @@
 -- A serial that is for an agent, by the terms, is one that it waits for.
-use Rattle.std.proofs.Common.{arith, ◌≡◌, refl, sym, subst, ℕ, suc, ◌+◌, ◌<◌, Bool, true, false, cond, List, [], ◌∷◌, length, Some}
-use Rattle.command_agent.specs.declared.step.Which.{Which}
-use Rattle.command_agent.specs.declared.step.Which.TheVariants.{Ahead, Main}
-use Rattle.sbp_laws.specs.Targets.{Agent, Purpose, Target, for_agent, for_manager, for_nobody, is_serial, purpose_among, purpose_of}
-use Rattle.sbp_world.specs.Agents.AskedRuns.{serial_of}
-use Rattle.sbp_world.specs.Agents.Crews.{agent_in}
+use Rattle.sbp_world.proofs.Words.Std.{arith, ◌≡◌, refl, sym, subst, ℕ, suc, ◌+◌, ◌<◌, Bool, true, false, cond, List, [], ◌∷◌, length, Some}
+use Rattle.sbp_world.proofs.Words.Target.{Which, Ahead, Main}
+use Rattle.sbp_world.proofs.Words.Laws.{Agent, Purpose, Target, for_agent, for_manager, for_nobody, is_serial, purpose_among, purpose_of}
+use Rattle.sbp_world.proofs.Words.World.{serial_of, agent_in}
 use Rattle.sbp_world.proofs.Agents.Handed.{is_its_serial}
 
 -- one of these agents, the first of which has place k, waits for it

@@ -1,38 +1,16 @@
 -- What is told and sent of an agent's step makes of its term what it makes of the agent.
-use Rattle.std.proofs.Common.{arith, ◌≡◌, ◌≢◌, ◌∙◌, refl, sym, ap, subst, ℕ, suc, ◌+◌, ◌<◌, nat_eq, is_some, Bool, true, false, cond, List, [], ◌∷◌, ◌++◌, length, Option, Some, None}
-use Rattle.std.specs.Prelude.{slice_index_or, slice_set}
-use Rattle.std.proofs.Math.ListN.{length-set}
-use Rattle.std.proofs.lemmas.Bool.Decides.{nat_tests}
-use Rattle.async_packet.specs.Labels.{LabelParts}
-use Rattle.label_table.specs.declared.judgement.Asked.{Asked}
-use Rattle.label_table.specs.Bodies.{Body}
-use Rattle.label_table.specs.Layer.{Layer, asking_step}
-use Rattle.label_table.specs.Requests.{is_write}
+use Rattle.sbp_world.proofs.Words.Std.{arith, ◌≡◌, ◌≢◌, ◌∙◌, refl, sym, ap, subst, ℕ, suc, ◌+◌, ◌<◌, nat_eq, is_some, Bool, true, false, cond, List, [], ◌∷◌, ◌++◌, length, Option, Some, None, slice_index_or, slice_set, length-set, nat_tests}
+use Rattle.sbp_world.proofs.Words.Wire.{LabelParts, Asked, Body, Layer, asking_step, is_write, Outgoing, Side, OutboxState}
+use Rattle.sbp_world.proofs.Words.Target.{Login, Outcome, AgentStep, Machine, Desk, Purpose, agent_body, ask_main, dropped_by, main_asked, main_sent, noted, promoted_by, without_ahead, new_desk, NodeState, Scene, desk_at, with_desk, request_step, sent_by, with_packet, with_side, orb_of, tell_dead, tell_ended, tell_ran, tell_step}
+use Rattle.sbp_world.proofs.Words.Initiator.{Ask, Nothing, FailCause, StatusKind}
+use Rattle.sbp_world.proofs.Words.Laws.{Agent, main_lost, sends_of, wants}
+use Rattle.sbp_world.proofs.Words.World.{AreOne, Request, by_packet, by_packets, with_requests}
 use Rattle.label_table.proofs.Owned.{set_at}
-use Rattle.login_table.specs.declared.login.Login.{Login}
-use Rattle.orb_layout.specs.declared.ask.Ask.{Ask}
-use Rattle.orb_layout.specs.declared.ask.Ask.TheVariants.{Nothing}
-use Rattle.orb_layout.specs.declared.ask.FailCause.{FailCause}
 use Rattle.orb_layout.specs.declared.ask.FailCause.TheVariants as causes
-use Rattle.orb_layout.specs.declared.status.StatusKind.{StatusKind}
-use Rattle.rbc_disk.specs.declared.command.Outcome.{Outcome}
-use Rattle.command_agent.specs.declared.step.AgentStep.{AgentStep}
-use Rattle.command_agent.specs.Machine.{Machine}
-use Rattle.sbp_journal.specs.declared.outbox.Outgoing.{Outgoing}
-use Rattle.sbp_journal.specs.declared.side.Side.{Side}
 use Rattle.sbp_journal.specs.declared.side.Side.TheVariants as sides
-use Rattle.sbp_journal.specs.Outgoings.{OutboxState}
-use Rattle.sbp_laws.specs.Targets.{Agent, main_lost, sends_of, wants}
-use Rattle.sbp_target.specs.declared.desk.Desk.{Desk}
-use Rattle.sbp_target.specs.declared.purpose.Purpose.{Purpose}
 use Rattle.sbp_target.specs.declared.purpose.Purpose.TheVariants as purposes
-use Rattle.sbp_target.specs.Agents.{agent_body, ask_main, dropped_by, main_asked, main_sent, noted, promoted_by, without_ahead}
-use Rattle.sbp_target.specs.Desks.{new_desk}
-use Rattle.sbp_target.specs.Nodes.{NodeState, Scene, desk_at, with_desk}
-use Rattle.sbp_target.specs.Sending.{request_step, sent_by, with_packet, with_side}
-use Rattle.sbp_target.specs.Telling.{orb_of, tell_dead, tell_ended, tell_ran, tell_step}
 use Rattle.sbp_target.proofs.Histories.Stepped.{Carries, is_asked}
-use Rattle.sbp_world.specs.Agents.Crews.{AreOne, Request, by_packet, by_packets, by_side, by_sides, with_requests}
+use Rattle.sbp_world.specs.Agents.Crews.{by_side, by_sides}
 use Rattle.sbp_world.proofs.Agents.Serials.{Paired, Turning, more_has, number_after, one_more, sent_within}
 use Rattle.sbp_world.proofs.Agents.Writes.{HasBody, asked_writes, has_body, no_body}
 use Rattle.sbp_world.proofs.Agents.Management.Requests.{writes_body}

@@ -1,19 +1,10 @@
 -- A request that was made of a body writes where its body does.
-use Rattle.std.proofs.Common.{◌≡◌, ◌∙◌, refl, ap, subst, ℕ, nat_le, Bool, true, false, cond, List, length, Option, Some, None, arith}
-use Rattle.std.proofs.lemmas.Bool.Decides.{nat_tests}
-use Rattle.async_packet.specs.Canon.{canon, four, three}
-use Rattle.async_packet.specs.Fields.{largest, tcode_of}
-use Rattle.label_table.specs.declared.judgement.Asked.{Asked}
-use Rattle.label_table.specs.Bodies.{Body, block_read, block_write, header_to, quadlet_read, quadlet_write, request_with}
-use Rattle.label_table.specs.Layer.{Layer, asked_at, asking_in, asking_step, peer_at, peer_place, unlabelled}
-use Rattle.label_table.specs.Peers.{begun_for}
-use Rattle.label_table.specs.Requests.{is_write, with_label}
-use Rattle.label_table.specs.Table.{begin_at, begin_step, lowest_from}
-use Rattle.orb_layout.specs.declared.ask.Ask.{Ask}
+use Rattle.sbp_world.proofs.Words.Std.{◌≡◌, ◌∙◌, refl, ap, subst, ℕ, nat_le, Bool, true, false, cond, List, length, Option, Some, None, arith, nat_tests}
+use Rattle.sbp_world.proofs.Words.Wire.{canon, four, three, largest, tcode_of, Asked, Body, block_read, block_write, header_to, quadlet_read, quadlet_write, request_with, Layer, asked_at, asking_in, asking_step, peer_at, peer_place, unlabelled, begun_for, is_write, with_label, begin_at, begin_step, lowest_from}
+use Rattle.sbp_world.proofs.Words.Target.{Purpose, agent_body}
+use Rattle.sbp_world.proofs.Words.Initiator.{Ask}
+use Rattle.sbp_world.proofs.Words.Laws.{wants}
 use Rattle.orb_layout.specs.declared.ask.Ask.TheVariants as ask
-use Rattle.sbp_laws.specs.Targets.{wants}
-use Rattle.sbp_target.specs.declared.purpose.Purpose.{Purpose}
-use Rattle.sbp_target.specs.Agents.{agent_body}
 use Rattle.sbp_target.proofs.Histories.Stepped.{Carries, is_asked}
 use Rattle.sbp_world.proofs.Agents.Management.Requests.{writes_body}
 use Rattle.sbp_world.proofs.Hosts.Mild.{tcode_same}

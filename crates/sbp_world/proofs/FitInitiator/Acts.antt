@@ -1,41 +1,15 @@
 -- What an action asks for fits a packet, and what it does leaves what fits.
-use Rattle.std.proofs.Common.{arith, ◌≡◌, refl, sym, ap, subst, ℕ, zero, suc, ◌+◌, ◌^◌, ◌<◌, ◌≤◌, ◌==◌, unwrap_or, Bool, true, false, List, [], ◌∷◌, ◌++◌, length, Option, Some, None}
-use Rattle.byteorder.specs.Endian.{big_bytes}
+use Rattle.sbp_world.proofs.Words.Std.{arith, ◌≡◌, refl, sym, ap, subst, ℕ, zero, suc, ◌+◌, ◌^◌, ◌<◌, ◌≤◌, ◌==◌, Bool, true, false, List, [], ◌∷◌, ◌++◌, length, Option, Some, None, big_bytes}
+use Rattle.sbp_world.proofs.Words.Wire.{AreBytes, AreSmall, FitsRequest, IsLayer, is_plain, ArePlainSides, IsAsking, request_to, with_asked, Asked, Layer, Action, Cmd, Note, NoteBuffer, Operation, Outgoing, buffer_of, OutboxState, empty_outbox}
+use Rattle.sbp_world.proofs.Words.Initiator.{start, ManagementOrb, PresentList, find_in, TicketParts, Demand, Purpose, Wanted, InitiatorState, act_step, append_step, asked_as, asked_for, begun, counted, demand_of, demanded_as, done_step, dummy_for, facts_with, judged_as, link_as, link_step, login_id, login_orb, low_as, low_step, manage_demand, managed_by, orb_by, pinned_for, put_as, put_step, register_of, register_start, ring_demand, ring_for, with_first, with_pin, with_ring, with_running, Turn, told, with_request, ListState, dummy_lists, high_lists, low_lists, pin_lists, put_lists, refusal, is_unwritten, place_of, wanted_body}
+use Rattle.sbp_world.proofs.Words.World.{AreIds, BytesAction, BytesCommand, FitsMemory, FitsState}
+use Rattle.std.proofs.Common.{unwrap_or}
 use Rattle.bus_memory.specs.declared.window.Window.TheVariants as windows
-use Rattle.bus_memory.specs.Windows.{start}
-use Rattle.bus_transactions.specs.Fitting.{AreBytes, AreSmall, FitsRequest, IsLayer}
-use Rattle.bus_transactions.specs.May.{is_plain}
-use Rattle.bus_transactions.specs.Steps.{ArePlainSides, IsAsking, request_to, with_asked}
 use Rattle.bus_transactions.proofs.FitCalls.{Asking, asking_asks, no_ask, plain_append}
-use Rattle.label_table.specs.declared.judgement.Asked.{Asked}
-use Rattle.label_table.specs.Layer.{Layer}
-use Rattle.orb_layout.specs.declared.management.ManagementOrb.{ManagementOrb}
-use Rattle.orb_list.specs.declared.list.PresentList.{PresentList}
-use Rattle.orb_list.specs.Table.{find_in}
-use Rattle.orb_list.specs.Tickets.{TicketParts}
-use Rattle.sbp_initiator.specs.declared.purpose.Demand.{Demand}
-use Rattle.sbp_initiator.specs.declared.purpose.Purpose.{Purpose}
-use Rattle.sbp_initiator.specs.declared.purpose.Wanted.{Wanted}
 use Rattle.sbp_initiator.specs.declared.purpose.Wanted.TheVariants as wants
-use Rattle.sbp_initiator.specs.declared.state.InitiatorState.{InitiatorState}
-use Rattle.sbp_initiator.specs.Acting.{act_step, append_step, asked_as, asked_for, begun, counted, demand_of, demanded_as, done_step, dummy_for, facts_with, judged_as, link_as, link_step, login_id, login_orb, low_as, low_step, manage_demand, managed_by, orb_by, pinned_for, put_as, put_step, register_of, register_start, ring_demand, ring_for, with_first, with_pin, with_ring, with_running}
-use Rattle.sbp_initiator.specs.Effects.{Turn, told, with_request}
-use Rattle.orb_list.specs.Lists.{ListState, dummy_lists, high_lists, low_lists, pin_lists}
-use Rattle.sbp_initiator.specs.Commands.{put_lists}
-use Rattle.sbp_initiator.specs.Refusals.{refusal}
-use Rattle.sbp_initiator.specs.States.{is_unwritten, place_of, wanted_body}
-use Rattle.sbp_journal.specs.declared.event.Action.{Action}
 use Rattle.sbp_journal.specs.declared.event.Action.TheVariants as actions
-use Rattle.sbp_journal.specs.declared.event.Cmd.{Cmd}
-use Rattle.sbp_journal.specs.declared.note.Note.{Note}
 use Rattle.sbp_journal.specs.declared.note.Note.TheVariants as notes
-use Rattle.sbp_journal.specs.declared.note.NoteBuffer.{NoteBuffer}
-use Rattle.sbp_journal.specs.declared.operation.Operation.{Operation}
 use Rattle.sbp_journal.specs.declared.operation.Operation.TheVariants as operations
-use Rattle.sbp_journal.specs.declared.outbox.Outgoing.{Outgoing}
-use Rattle.sbp_journal.specs.Buffers.{buffer_of}
-use Rattle.sbp_journal.specs.Outgoings.{OutboxState, empty_outbox}
-use Rattle.sbp_world.specs.FitInitiator.{AreIds, BytesAction, BytesCommand, FitsMemory, FitsState}
 use Rattle.sbp_world.proofs.FitInitiator.Memory.{dummy_fits, high_fits, low_fits, manage_fits, pin_fits, put_fits}
 use Rattle.sbp_world.proofs.FitInitiator.Turns.{At, Said, Tells, fits_memory}
 

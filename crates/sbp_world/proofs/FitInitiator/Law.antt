@@ -1,34 +1,16 @@
 -- Each call of an initiator is what the wire takes a call of a node for.
-use Rattle.std.proofs.Common.{arith, ◌≡◌, refl, sym, subst, ℕ, ◌+◌, ◌^◌, ◌<◌, ◌≤◌, nat_lt, Bool, true, false, cond, List, [], ◌∷◌, Option, Some, None, Result, Ok, Err}
-use Rattle.async_packet.specs.Labels.{LabelParts}
-use Rattle.async_packet.specs.Packet.{Packet, header_in}
-use Rattle.bus_transactions.specs.Fitting.{AreBytes, AreSmall, IsLayer}
-use Rattle.bus_transactions.specs.May.{may_ignore}
-use Rattle.bus_transactions.specs.Steps.{ArePlainSides, IsDelivery, IsExpiry, answer_to, judged_for}
-use Rattle.bus_transactions.specs.Wire.{as_before, as_decided}
+use Rattle.sbp_world.proofs.Words.Std.{arith, ◌≡◌, refl, sym, subst, ℕ, ◌+◌, ◌^◌, ◌<◌, ◌≤◌, nat_lt, Bool, true, false, cond, List, [], ◌∷◌, Option, Some, None, Result, Ok, Err}
+use Rattle.sbp_world.proofs.Words.Wire.{LabelParts, Packet, header_in, AreBytes, AreSmall, IsLayer, may_ignore, ArePlainSides, IsDelivery, IsExpiry, answer_to, judged_for, as_before, as_decided, Stale, Layer, Finding, of_generation, of_grammar, of_label, of_response, of_again, of_request, answering_step, expiring_step, judging_step, seeing_step, seen_in_generation, IsRequestOf, Judged, Action, OutboxState, empty_outbox}
+use Rattle.sbp_world.proofs.Words.Initiator.{Purpose, InitiatorState, act_step, Turn, drop_list_step, dropped_as, first_management, new_state, own_rom, ListState, drop_lists, free_lists, called, expire_step, expired_as, receive_step, received, request_step, responded_as, interrupted, reset_step, resets_told, see_step, seen_as, ending_of}
+use Rattle.sbp_world.proofs.Words.World.{Acts, AreIds, BytesAction, Expires, FitsState, InitiatorFits}
 use Rattle.bus_transactions.proofs.FitCalls.{Answering, Asking, Calm, answering_answers, asking_asks, asking_tells, calm_tells, no_ask, no_leaving}
 use Rattle.bus_transactions.proofs.FitJudged.{IsFoundAs, bytes_of, found_as, source_fits}
 use Rattle.bus_transactions.proofs.FitSteps.{expires_same, goes, judges_same, new_goes, sees_goes}
-use Rattle.label_table.specs.declared.reply.Stale.{Stale}
-use Rattle.label_table.specs.Layer.{Layer, Finding, of_generation, of_grammar, of_label, of_response, of_again, of_request, answering_step, expiring_step, judging_step, seeing_step, seen_in_generation}
-use Rattle.label_table.specs.Requests.{IsRequestOf}
 use Rattle.label_table.specs.History as wire
 use Rattle.sbp_initiator.specs.declared.purpose.Ending.TheVariants as endings
-use Rattle.sbp_initiator.specs.declared.purpose.Purpose.{Purpose}
-use Rattle.sbp_initiator.specs.declared.state.InitiatorState.{InitiatorState}
-use Rattle.sbp_initiator.specs.Acting.{act_step}
-use Rattle.sbp_initiator.specs.Effects.{Turn, drop_list_step, dropped_as}
-use Rattle.sbp_initiator.specs.Initiators.{first_management, new_state, own_rom}
-use Rattle.orb_list.specs.Lists.{ListState, drop_lists, free_lists}
-use Rattle.sbp_initiator.specs.Receiving.{called, expire_step, expired_as, receive_step, received, request_step, responded_as}
-use Rattle.sbp_initiator.specs.Seeing.{interrupted, reset_step, resets_told, see_step, seen_as}
-use Rattle.sbp_initiator.specs.States.{ending_of}
 use Rattle.sbp_initiator.proofs.FirstRow.{refusal_law}
-use Rattle.sbp_journal.specs.declared.cause.Judged.{Judged}
 use Rattle.sbp_journal.specs.declared.cause.Judged.TheVariants as judgements
-use Rattle.sbp_journal.specs.declared.event.Action.{Action}
-use Rattle.sbp_journal.specs.Outgoings.{OutboxState, empty_outbox}
-use Rattle.sbp_world.specs.FitInitiator.{Acts, AreIds, BytesAction, Expires, FitsState, FittingLaw, Holds, InitiatorFits, Receives}
+use Rattle.sbp_world.specs.FitInitiator.{FittingLaw, Holds, Receives}
 use Rattle.sbp_world.proofs.FitInitiator.Acts.{acts_fit}
 use Rattle.sbp_world.proofs.FitInitiator.Memory.{free_fits, new_memory_fits}
 use Rattle.sbp_world.proofs.FitInitiator.Requests.{Answers, cause_of, requested}

@@ -1,40 +1,14 @@
 -- What the steps of the slots and the writes of the target leave in the memory are bytes.
-use Rattle.std.proofs.Common.{arith, ◌≡◌, refl, sym, subst, ℕ, zero, suc, ◌+◌, ◌-◌, ◌*◌, ◌^◌, ◌<◌, ◌≤◌, ◌==◌, ◌&&◌, ◌||◌, nat_le, is_some, Bool, true, false, cond, List, [], ◌∷◌, ◌++◌, length, take, drop, get_or, Option, Some, None, Result, Ok, Err}
-use Rattle.std.proofs.lemmas.Bool.Decides.{nat_tests}
-use Rattle.std.proofs.lemmas.List.{length-drop, length-take}
-use Rattle.byteorder.specs.Endian.{big_bytes}
-use Rattle.sbp_base.specs.Quadlets.{with_quad}
-use Rattle.bus_memory.specs.declared.access.Access.{Access}
+use Rattle.sbp_world.proofs.Words.Std.{arith, ◌≡◌, refl, sym, subst, ℕ, zero, suc, ◌+◌, ◌-◌, ◌*◌, ◌^◌, ◌<◌, ◌≤◌, ◌==◌, ◌&&◌, ◌||◌, nat_le, is_some, Bool, true, false, cond, List, [], ◌∷◌, ◌++◌, length, take, drop, get_or, Option, Some, None, Result, Ok, Err, nat_tests, length-drop, length-take, big_bytes, with_quad}
+use Rattle.sbp_world.proofs.Words.Wire.{AreBytes, Cmd}
+use Rattle.sbp_world.proofs.Words.Initiator.{Access, Rcode, TypeError, AddressError, Spot, PlaceMemory, SlotMemory, Window, judged, judged_at, rcode_number, read_at, read_step, serves, spot_in, spot_of, write_at, Memory, bytes_in, empty_place, empty_slot, new_memory, patch, place_at, slot_at, with_armed, with_bytes, with_place, with_slot, is_fifo, slot_of, start, window_at, ManagementOrb, StatusBlock, command_bytes, command_quads, management_bytes, management_quads, quad_bytes, ListFault, Linking, Slot, behind, data_in_segments, data_written, orb_of, table_bytes, written, Asked, SlotTable, checked, closed, closed_slots, dummy_at, dummy_step, free_all_step, high_for, high_step, low_for, may_prepare, pin_step, prepare_at, prepare_step, slot_in, status_at, status_for, unpin_for, unpin_step, waiting, waits_high, waits_low, with_orb_quad, TicketParts, ListState, drop_lists, dummy_lists, free_lists, high_lists, low_lists, manage_lists, pin_lists, stepped, take_lists, unpin_lists, with_slots, write_lists, prepared_as, put_lists}
+use Rattle.sbp_world.proofs.Words.World.{BytesCommand, FitsMemory, FitsPlace, FitsSlot}
 use Rattle.bus_memory.specs.declared.access.Access.TheVariants.{Read, Write}
-use Rattle.bus_memory.specs.declared.access.Rcode.{Rcode}
-use Rattle.bus_memory.specs.declared.access.Rcode.TheVariants.{TypeError, AddressError}
-use Rattle.bus_memory.specs.declared.access.Spot.{Spot}
-use Rattle.bus_memory.specs.declared.slot.PlaceMemory.{PlaceMemory}
-use Rattle.bus_memory.specs.declared.slot.SlotMemory.{SlotMemory}
-use Rattle.bus_memory.specs.declared.window.Window.{Window}
 use Rattle.bus_memory.specs.declared.window.Window.TheVariants as windows
-use Rattle.bus_memory.specs.Access.{is_open, judged, judged_at, rcode_number, read_at, read_step, serves, spot_in, spot_of, write_at}
-use Rattle.bus_memory.specs.Memory.{Memory, bytes_in, empty_place, empty_slot, new_memory, patch, place_at, slot_at, with_armed, with_bytes, with_place, with_slot}
-use Rattle.bus_memory.specs.Windows.{is_fifo, slot_of, start, window_at}
-use Rattle.bus_transactions.specs.Fitting.{AreBytes}
+use Rattle.bus_memory.specs.Access.{is_open}
 use Rattle.bus_transactions.proofs.Fits.{bytes_append, bytes_drop, bytes_quad, bytes_take, bytes_zeros, no_bytes, put_or}
 use Rattle.bus_transactions.proofs.FitSteps.{replicate_or}
-use Rattle.orb_layout.specs.declared.management.ManagementOrb.{ManagementOrb}
-use Rattle.orb_layout.specs.declared.status.StatusBlock.{StatusBlock}
-use Rattle.orb_layout.specs.CommandOrbs.{command_bytes, command_quads}
-use Rattle.orb_layout.specs.ManagementOrbs.{management_bytes, management_quads}
-use Rattle.orb_layout.specs.Pointers.{quad_bytes}
-use Rattle.orb_list.specs.declared.fault.ListFault.{ListFault}
-use Rattle.orb_list.specs.declared.list.Linking.{Linking}
-use Rattle.orb_list.specs.declared.slot.Slot.{Slot}
-use Rattle.orb_list.specs.Layout.{behind, data_in_segments, data_written, orb_of, table_bytes, written}
-use Rattle.orb_list.specs.Requests.{Asked}
-use Rattle.orb_list.specs.Table.{SlotTable, checked, closed, closed_slots, dummy_at, dummy_step, free_all_step, high_for, high_step, low_for, low_step, may_prepare, pin_step, prepare_at, prepare_step, slot_in, status_at, status_for, status_step, unpin_for, unpin_step, waiting, waits_high, waits_low, with_orb_quad}
-use Rattle.orb_list.specs.Tickets.{TicketParts}
-use Rattle.orb_list.specs.Lists.{ListState, drop_lists, dummy_lists, free_lists, high_lists, low_lists, manage_lists, pin_lists, stepped, take_lists, unpin_lists, with_slots, write_lists}
-use Rattle.sbp_initiator.specs.Commands.{prepared_as, put_lists}
-use Rattle.sbp_journal.specs.declared.event.Cmd.{Cmd}
-use Rattle.sbp_world.specs.FitInitiator.{BytesCommand, FitsMemory, FitsPlace, FitsSlot}
+use Rattle.orb_list.specs.Table.{low_step, status_step}
 use Rattle.sbp_world.proofs.FitTarget.Agents.{quads_bytes}
 
 -- ---- bytes that are written

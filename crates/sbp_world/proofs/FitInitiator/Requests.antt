@@ -1,42 +1,16 @@
 -- A request that comes to an initiator takes what is said before its answer to what is said behind it, by an answer that fits.
-use Rattle.std.proofs.Common.{arith, ◌≡◌, ◌≢◌, refl, ◌∙◌, ℕ, ◌^◌, ◌<◌, ◌&&◌, Bool, true, false, cond, List, [], ◌∷◌, ◌++◌, length, replicate, Option, Some, None, Result, Ok, Err}
-use Rattle.std.proofs.lemmas.List.{length-replicate}
-use Rattle.byteorder.specs.Endian.{big_bytes}
-use Rattle.async_packet.specs.Packet.{Packet, header_in, lock, lock_response, read_block, read_block_response, read_quadlet, read_quadlet_response, write_block, write_quadlet, write_response}
-use Rattle.bus_transactions.specs.Fitting.{FitsAnswer}
-use Rattle.bus_transactions.specs.May.{is_plain, may_ignore}
-use Rattle.bus_transactions.specs.Steps.{answer_to}
-use Rattle.bus_transactions.specs.Wire.{is_stated}
+use Rattle.sbp_world.proofs.Words.Std.{arith, ◌≡◌, ◌≢◌, refl, ◌∙◌, ℕ, ◌^◌, ◌<◌, ◌&&◌, Bool, true, false, cond, List, [], ◌∷◌, ◌++◌, length, replicate, Option, Some, None, Result, Ok, Err, length-replicate, big_bytes}
+use Rattle.sbp_world.proofs.Words.Wire.{Packet, header_in, lock, lock_response, read_block, read_block_response, read_quadlet, read_quadlet_response, write_block, write_quadlet, write_response, FitsAnswer, is_plain, may_ignore, answer_to, is_stated, Gives, Layer, answering_step, Cause, Judged, Outgoing, Side, OutboxState}
+use Rattle.sbp_world.proofs.Words.Target.{is_block}
+use Rattle.sbp_world.proofs.Words.Initiator.{read_step, OrbFault, StatusBlock, StatusKind, TicketParts, Fifo, Purpose, Running, InitiatorState, Turn, managed_step, told, with_dead, ListState, take_lists, write_lists, is_dead_kind, addressed, answer_of, block_at, block_by, block_step, called, fifo_of, got_step, ignored_step, is_foreign, managed_for, present_for, quadlet_at, read_as, request_step, respond_step, responded_as, serve_step, status_step, taken_as, taken_by, written_as, status_in}
+use Rattle.sbp_world.proofs.Words.World.{FitsMemory, FitsState}
 use Rattle.bus_transactions.proofs.Fits.{bytes_quad, bytes_zeros, no_bytes}
 use Rattle.bus_transactions.proofs.FitJudged.{BytesOf, no_gives, not_complete}
-use Rattle.bus_memory.specs.Access.{read_step}
-use Rattle.label_table.specs.Bodies.{Gives}
-use Rattle.label_table.specs.Layer.{Layer, answering_step}
-use Rattle.media_bay.specs.Unsolicited.{is_block}
-use Rattle.orb_layout.specs.declared.fault.OrbFault.{OrbFault}
-use Rattle.orb_layout.specs.declared.status.StatusBlock.{StatusBlock}
-use Rattle.orb_layout.specs.declared.status.StatusKind.{StatusKind}
 use Rattle.orb_layout.specs.declared.status.StatusKind.TheVariants as kinds
-use Rattle.orb_list.specs.Tickets.{TicketParts}
-use Rattle.initiator_base.specs.declared.fifos.Fifo.{Fifo}
 use Rattle.initiator_base.specs.declared.fifos.Fifo.TheVariants as fifos
-use Rattle.sbp_initiator.specs.declared.purpose.Purpose.{Purpose}
-use Rattle.sbp_initiator.specs.declared.purpose.Running.{Running}
-use Rattle.sbp_initiator.specs.declared.state.InitiatorState.{InitiatorState}
-use Rattle.sbp_initiator.specs.Effects.{Turn, managed_step, told, with_dead}
-use Rattle.orb_list.specs.Lists.{ListState, take_lists, write_lists}
-use Rattle.initiator_base.specs.Fifos.{is_dead_kind}
-use Rattle.sbp_initiator.specs.Receiving.{addressed, answer_of, block_at, block_by, block_step, called, fifo_of, got_step, ignored_step, is_foreign, managed_for, present_for, quadlet_at, read_as, request_step, respond_step, responded_as, serve_step, status_step, taken_as, taken_by, written_as}
-use Rattle.sbp_initiator.specs.States.{status_in}
-use Rattle.sbp_journal.specs.declared.cause.Cause.{Cause}
 use Rattle.sbp_journal.specs.declared.cause.Cause.TheVariants as causes
-use Rattle.sbp_journal.specs.declared.cause.Judged.{Judged}
 use Rattle.sbp_journal.specs.declared.cause.Judged.TheVariants as judgements
 use Rattle.sbp_journal.specs.declared.note.Note.TheVariants as notes
-use Rattle.sbp_journal.specs.declared.outbox.Outgoing.{Outgoing}
-use Rattle.sbp_journal.specs.declared.side.Side.{Side}
-use Rattle.sbp_journal.specs.Outgoings.{OutboxState}
-use Rattle.sbp_world.specs.FitInitiator.{FitsMemory, FitsState}
 use Rattle.sbp_world.proofs.FitInitiator.Memory.{FitsRead, read_fits, take_fits, write_fits, wrote_small}
 use Rattle.sbp_world.proofs.FitInitiator.Turns.{At, Said, Tells, fits_memory, managed}
 

@@ -1,41 +1,16 @@
 -- What is kept by telling and by asking the target for what fits a packet is kept by all that follows the end of a transaction; and what fits stays so.
-use Rattle.std.proofs.Common.{arith, ◌≡◌, refl, subst, ℕ, ◌^◌, ◌<◌, ◌==◌, Bool, true, false, cond, List, [], ◌∷◌, ◌++◌, length, Option, Some, None, Result, Ok, Err}
-use Rattle.bus_transactions.specs.Fitting.{FitsRequest}
-use Rattle.bus_transactions.specs.May.{is_plain}
-use Rattle.bus_transactions.specs.Steps.{with_asked}
-use Rattle.config_rom.specs.declared.fault.RomFault.{RomFault}
-use Rattle.config_rom.specs.declared.unit.SbpUnit.{SbpUnit}
-use Rattle.config_rom.specs.Reading.{Tree, reading}
-use Rattle.config_rom.specs.Unit.{sbp_unit_of}
-use Rattle.bus_memory.specs.Memory.{Memory}
-use Rattle.label_table.specs.declared.judgement.Asked.{Asked}
-use Rattle.label_table.specs.Bodies.{Body}
-use Rattle.label_table.specs.Layer.{Layer, asking_step}
-use Rattle.sbp_initiator.specs.declared.purpose.Ending.{Ending}
+use Rattle.sbp_world.proofs.Words.Std.{arith, ◌≡◌, refl, subst, ℕ, ◌^◌, ◌<◌, ◌==◌, Bool, true, false, cond, List, [], ◌∷◌, ◌++◌, length, Option, Some, None, Result, Ok, Err}
+use Rattle.sbp_world.proofs.Words.Wire.{FitsRequest, is_plain, with_asked, Asked, Body, Layer, asking_step, Note, Operation, OpWord, Outgoing, Side, OutboxState}
+use Rattle.sbp_world.proofs.Words.Target.{RomFault, SbpUnit, Tree, reading, sbp_unit_of}
+use Rattle.sbp_world.proofs.Words.Initiator.{Memory, Ending, Purpose, Running, InitiatorState, Turn, ask_quad, asked_quad, conflict_for, conflict_step, doorbell_ended, drop_list_step, drop_where, dropped_as, enable_ended, end_own_for, end_own_step, end_step, ended_for, ended_step, fail_step, fault_number, finish_rom, good_end, good_event, good_word, is_address, is_conflict, known_where, managed_step, management_ended, moved, moves_session, next_quad, pointer_ended, quad_got, reset_ended, response_of, rom_ended, state_ended, state_told, stick_step, then_step, told, with_answered, with_dead, with_rom, with_unit, ListState, drop_lists, unpin_lists, with_quad, ends_list, counts_for, is_list, management_at, is_stuck_seat, Event, bad, conflict}
+use Rattle.sbp_world.proofs.Words.World.{FitsMemory, FitsState}
 use Rattle.sbp_initiator.specs.declared.purpose.Ending.TheVariants as endings
-use Rattle.sbp_initiator.specs.declared.purpose.Purpose.{Purpose}
 use Rattle.sbp_initiator.specs.declared.purpose.Purpose.TheVariants as purposes
-use Rattle.sbp_initiator.specs.declared.purpose.Running.{Running}
-use Rattle.sbp_initiator.specs.declared.state.InitiatorState.{InitiatorState}
-use Rattle.sbp_initiator.specs.Effects.{Turn, ask_quad, asked_quad, conflict_for, conflict_step, doorbell_ended, drop_list_step, drop_where, dropped_as, enable_ended, end_own_for, end_own_step, end_step, ended_for, ended_step, fail_step, fault_number, finish_rom, good_end, good_event, good_word, is_address, is_conflict, known_where, managed_step, management_ended, moved, moves_session, next_quad, pointer_ended, quad_got, reset_ended, response_of, rom_ended, state_ended, state_told, stick_step, then_step, told, with_answered, with_dead, with_rom, with_unit}
-use Rattle.orb_list.specs.Lists.{ListState, drop_lists, unpin_lists}
-use Rattle.initiator_base.specs.Quads.{with_quad}
-use Rattle.sbp_initiator.specs.Refusals.{ends_list}
-use Rattle.sbp_initiator.specs.States.{counts_for, is_list}
-use Rattle.initiator_base.specs.Places.{management_at}
-use Rattle.sbp_session.specs.Seats.{is_stuck_seat}
-use Rattle.sbp_journal.specs.declared.note.Note.{Note}
 use Rattle.sbp_journal.specs.declared.note.Note.TheVariants as notes
-use Rattle.sbp_journal.specs.declared.operation.Operation.{Operation}
 use Rattle.sbp_journal.specs.declared.operation.Operation.TheVariants as operations
-use Rattle.sbp_journal.specs.declared.operation.OpWord.{OpWord}
 use Rattle.sbp_journal.specs.declared.operation.OpWord.TheVariants as words
-use Rattle.sbp_journal.specs.declared.outbox.Outgoing.{Outgoing}
-use Rattle.sbp_journal.specs.declared.side.Side.{Side}
 use Rattle.sbp_journal.specs.declared.side.Side.TheVariants as sides
-use Rattle.sbp_journal.specs.Outgoings.{OutboxState}
-use Rattle.sbp_session.specs.Moves.{Event, bad, conflict}
-use Rattle.sbp_world.specs.FitInitiator.{Fits, FitsMemory, FitsState}
+use Rattle.sbp_world.specs.FitInitiator.{Fits}
 use Rattle.sbp_world.proofs.FitInitiator.Memory.{drop_fits, unpin_fits}
 
 -- what is said of a layer, the packets handed out, and what was told

@@ -1,53 +1,20 @@
 -- The addresses of agents: each step of an agent asks for addresses of 48 bits, and leaves it with such.
-use Rattle.std.proofs.Common.{arith, ◌≡◌, refl, subst, ℕ, ◌+◌, ◌-◌, ◌*◌, ◌%◌, ◌^◌, ◌<◌, ◌≤◌, ◌==◌, ◌&&◌, not, nat_lt, min, Bool, true, false, cond, List, [], ◌∷◌, ◌++◌, length, drop, Option, Some, None, Result, Ok, Err}
-use Rattle.std.proofs.lemmas.Bool.Decides.{nat_tests}
-use Rattle.std.specs.List.{AllByRecursion}
-use Rattle.bus_transactions.specs.Fitting.{AreBytes}
+use Rattle.sbp_world.proofs.Words.Std.{arith, ◌≡◌, refl, subst, ℕ, ◌+◌, ◌-◌, ◌*◌, ◌%◌, ◌^◌, ◌<◌, ◌≤◌, ◌==◌, ◌&&◌, not, nat_lt, min, Bool, true, false, cond, List, [], ◌∷◌, ◌++◌, length, drop, Option, Some, None, Result, Ok, Err, nat_tests, AllByRecursion, big_bytes}
+use Rattle.sbp_world.proofs.Words.Wire.{AreBytes}
+use Rattle.sbp_world.proofs.Words.Target.{Phase, ReadAhead, AgentState, AgentStep, Move, PointRefusal, Which, Main, Ahead, death_by, plain_length, reads_table, refusal, verdict, Machine, aligned, chunk_of, cut_to, limit_of, is_ahead, new_machine, plan_of, state_in, abort_step, advanced, ahead_lost, ahead_of, ahead_read, ahead_step, answer_chunk, block_of, check_step, checked, chunk_written, data_read, data_step, dead_step, doorbell_in, doorbell_step, elements_read, end_step, fail_step, fetch_step, follow_step, judge_step, judged, kept_ahead, lost_step, main_lost, next_read, orb_read, passed_step, point_in, point_step, pointed, quiet, ran_as, reply_step, reread_step, reset_step, run_step, served, table_read, told_or, turn_step, unread_buffer, wait_step, with_ahead, Need, Outcome, Told, need_of, PlainDisk}
+use Rattle.sbp_world.proofs.Words.Initiator.{Ask, Read, Write, Nothing, FailCause, CommandOrb, OrbPointer, Null, At, StatusBlock, StatusKind, command_orb, IsPointer, offset_at, pointer_at, quad_bytes, Answer, Payload, Done, Refused, Expired, NoLabel, payload_of, write_failure, check_quads, row_of, status_bytes, status_head, PageFault, ZeroSegment, PastEnd, Chunk, Segment, chunk, chunk_from, elements_of, first_fault}
+use Rattle.sbp_world.proofs.Words.World.{BytesTold, FitsAgent, FitsAhead, FitsOrb, FitsSegment}
 use Rattle.bus_transactions.proofs.Fits.{bytes_append, bytes_drop, bytes_quad, bytes_take, no_bytes, quad_fits}
-use Rattle.byteorder.specs.Endian.{big_bytes}
-use Rattle.command_agent.specs.declared.phase.Phase.{Phase}
 use Rattle.command_agent.specs.declared.phase.Phase.TheVariants as phases
-use Rattle.command_agent.specs.declared.phase.ReadAhead.{ReadAhead}
 use Rattle.command_agent.specs.declared.phase.ReadAhead.TheVariants as aheads
-use Rattle.command_agent.specs.declared.step.AgentState.{AgentState}
 use Rattle.command_agent.specs.declared.step.AgentState.TheVariants as states
-use Rattle.command_agent.specs.declared.step.AgentStep.{AgentStep}
-use Rattle.command_agent.specs.declared.step.Move.{Move}
 use Rattle.command_agent.specs.declared.step.Move.TheVariants as moves
-use Rattle.command_agent.specs.declared.step.PointRefusal.{PointRefusal}
 use Rattle.command_agent.specs.declared.step.PointRefusal.TheVariants as refusals
-use Rattle.command_agent.specs.declared.step.Which.{Which}
-use Rattle.command_agent.specs.declared.step.Which.TheVariants.{Main, Ahead}
-use Rattle.command_agent.specs.Checks.{death_by, plain_length, reads_table, refusal, verdict}
-use Rattle.command_agent.specs.Machine.{Machine, aligned, chunk_of, cut_to, limit_of, is_ahead, new_machine, plan_of, state_in}
-use Rattle.command_agent.specs.Steps.{abort_step, advanced, ahead_lost, ahead_of, ahead_read, ahead_step, answer_chunk, answer_step, block_of, check_step, checked, chunk_written, data_read, data_step, dead_step, doorbell_in, doorbell_step, elements_read, end_step, fail_step, fetch_step, follow_step, judge_step, judged, kept_ahead, lost_step, main_lost, next_read, orb_read, passed_step, point_in, point_step, pointed, quiet, ran_as, replied, reply_step, reread_step, reset_step, run_step, served, status_written, table_read, told_or, turn_step, unread_buffer, wait_step, with_ahead}
-use Rattle.orb_layout.specs.declared.ask.Ask.{Ask}
-use Rattle.orb_layout.specs.declared.ask.Ask.TheVariants.{Read, Write, Nothing}
-use Rattle.orb_layout.specs.declared.ask.FailCause.{FailCause}
+use Rattle.command_agent.specs.Steps.{answer_step, replied, status_written}
 use Rattle.orb_layout.specs.declared.ask.FailCause.TheVariants as causes
-use Rattle.orb_layout.specs.declared.command.CommandOrb.{CommandOrb}
-use Rattle.orb_layout.specs.declared.pointer.OrbPointer.{OrbPointer}
-use Rattle.orb_layout.specs.declared.pointer.OrbPointer.TheVariants.{Null, At}
-use Rattle.orb_layout.specs.declared.status.StatusBlock.{StatusBlock}
-use Rattle.orb_layout.specs.declared.status.StatusKind.{StatusKind}
 use Rattle.orb_layout.specs.declared.status.StatusKind.TheVariants as kinds
-use Rattle.orb_layout.specs.CommandOrbs.{command_orb}
-use Rattle.orb_layout.specs.Pointers.{IsPointer, offset_at, pointer_at, quad_bytes}
-use Rattle.orb_layout.specs.Replies.{Answer, Payload, Done, Refused, Expired, NoLabel, payload_of, write_failure}
-use Rattle.orb_layout.specs.StatusBlocks.{check_quads, row_of, status_bytes, status_head}
-use Rattle.page_table.specs.declared.fault.PageFault.{PageFault}
-use Rattle.page_table.specs.declared.fault.PageFault.TheVariants.{ZeroSegment, PastEnd}
-use Rattle.page_table.specs.declared.segment.Chunk.{Chunk}
-use Rattle.page_table.specs.declared.segment.Segment.{Segment}
-use Rattle.page_table.specs.Buffer.{chunk, chunk_from}
-use Rattle.page_table.specs.Elements.{elements_of, first_fault}
-use Rattle.rbc_disk.specs.declared.command.Need.{Need}
 use Rattle.rbc_disk.specs.declared.command.Need.TheVariants as needs
-use Rattle.rbc_disk.specs.declared.command.Outcome.{Outcome}
 use Rattle.rbc_disk.specs.declared.command.Outcome.TheVariants as outcomes
-use Rattle.rbc_disk.specs.Runs.{Told, need_of}
-use Rattle.rbc_disk.specs.Units.{PlainDisk}
-use Rattle.sbp_world.specs.FitTarget.{BytesTold, FitsAgent, FitsAhead, FitsOrb, FitsSegment}
 
 -- ---- what is asked for, and what comes
 abbrev pub FitsAsk : Ask → Type 0

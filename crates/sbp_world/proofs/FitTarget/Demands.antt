@@ -1,26 +1,14 @@
 -- What a request that is got asks for has an answer that fits, and names addresses of 48 bits.
-use Rattle.std.proofs.Common.{arith, ◌≡◌, ◌≢◌, refl, sym, ◌∙◌, subst, ℕ, ◌+◌, ◌-◌, ◌^◌, ◌<◌, ◌≤◌, ◌==◌, ◌&&◌, nat_le, Bool, true, false, cond, List, length, Option, Some, None}
-use Rattle.std.proofs.lemmas.Bool.Decides.{nat_tests}
-use Rattle.std.proofs.lemmas.Bool.{false≢true}
-use Rattle.std.proofs.lemmas.Option.{same_Some}
-use Rattle.async_packet.specs.declared.packet.Header.{Header}
-use Rattle.async_packet.specs.Packet.{Packet, lock, lock_response, read_block, read_block_response, read_quadlet, read_quadlet_response, write_block, write_quadlet, write_response}
-use Rattle.bus_transactions.specs.Fitting.{AreBytes}
+use Rattle.sbp_world.proofs.Words.Std.{arith, ◌≡◌, ◌≢◌, refl, sym, ◌∙◌, subst, ℕ, ◌+◌, ◌-◌, ◌^◌, ◌<◌, ◌≤◌, ◌==◌, ◌&&◌, nat_le, Bool, true, false, cond, List, length, Option, Some, None, nat_tests, false≢true, same_Some, big_bytes}
+use Rattle.sbp_world.proofs.Words.Wire.{Header, Packet, lock, lock_response, read_block, read_block_response, read_quadlet, read_quadlet_response, write_block, write_quadlet, write_response, AreBytes, Gives}
+use Rattle.sbp_world.proofs.Words.Target.{Access, AgentRegister, Demand, Register, Reached, Row, accessed, accessed_at, by_address, by_register, by_rom, by_type, demand_by, demand_of, is_read, length_in, management_start, offset_in, or_nowhere, reached, reads_rom, register_at, rom_start, row_of, served_by, answer_in}
+use Rattle.sbp_world.proofs.Words.Initiator.{IsPointer, offset_at, pointer_at, Answer, Payload, Done, Refused}
 use Rattle.bus_transactions.proofs.FitJudged.{BytesOf, not_complete}
 use Rattle.bus_transactions.proofs.Fits.{bytes_quad}
-use Rattle.byteorder.specs.Endian.{big_bytes}
-use Rattle.label_table.specs.Bodies.{Gives}
-use Rattle.orb_layout.specs.Pointers.{IsPointer, offset_at, pointer_at}
-use Rattle.orb_layout.specs.Replies.{Answer, Payload, Done, Refused}
-use Rattle.target_base.specs.declared.address.Access.{Access}
 use Rattle.target_base.specs.declared.address.Access.TheVariants as accesses
-use Rattle.target_base.specs.declared.address.AgentRegister.{AgentRegister}
-use Rattle.target_base.specs.declared.address.Demand.{Demand}
 use Rattle.target_base.specs.declared.address.Demand.TheVariants as demands
-use Rattle.target_base.specs.declared.address.Register.{Register}
 use Rattle.target_base.specs.declared.address.Register.TheVariants as registers
-use Rattle.target_base.specs.Addresses.{Reached, Row, accessed, accessed_at, by_address, by_register, by_rom, by_type, demand_by, demand_of, is_read, length_in, managed, management_start, offset_in, or_nowhere, reached, reads_rom, register_at, rom_start, row_of, served, served_by}
-use Rattle.sbp_target.specs.Receiving.{answer_in}
+use Rattle.target_base.specs.Addresses.{managed, served}
 use Rattle.sbp_world.proofs.FitTarget.Agents.{BytesIn, offset_fits, pointer_fits}
 
 either_small : (b : Bool) (answer : Answer) (rcode : ℕ) → BytesIn answer → BytesIn (cond b answer (Refused rcode))

@@ -1,48 +1,19 @@
 -- Each call of a target is what the wire takes a call of a node for.
-use Rattle.std.proofs.Common.{arith, ◌≡◌, refl, sym, ◌∙◌, subst, ℕ, zero, suc, ◌+◌, ◌^◌, ◌<◌, ◌≤◌, nat_eq, nat_lt, Bool, true, false, cond, List, [], ◌∷◌, length, map, get_or, set, Option, Some, None, Result, Ok, Err}
-use Rattle.std.proofs.Math.ListN.{get_or-eq_default, get_or-map}
-use Rattle.std.proofs.lemmas.List.{length-map}
-use Rattle.std.proofs.lemmas.Bool.Decides.{nat_tests}
-use Rattle.async_packet.specs.Labels.{LabelParts}
-use Rattle.async_packet.specs.Packet.{Packet, header_in}
-use Rattle.bus_transactions.specs.Fitting.{AreSmall, IsLayer}
-use Rattle.bus_transactions.specs.Steps.{ArePlainSides, IsDelivery, IsExpiry}
-use Rattle.bus_transactions.specs.Wire.{as_before, as_decided, is_reply}
+use Rattle.sbp_world.proofs.Words.Std.{arith, ◌≡◌, refl, sym, ◌∙◌, subst, ℕ, zero, suc, ◌+◌, ◌^◌, ◌<◌, ◌≤◌, nat_eq, nat_lt, Bool, true, false, cond, List, [], ◌∷◌, length, map, get_or, set, Option, Some, None, Result, Ok, Err, get_or-eq_default, get_or-map, length-map, nat_tests}
+use Rattle.sbp_world.proofs.Words.Wire.{LabelParts, Packet, header_in, AreSmall, IsLayer, ArePlainSides, IsDelivery, IsExpiry, as_before, as_decided, is_reply, Stale, Layer, Finding, of_generation, of_grammar, of_label, of_response, of_again, of_request, expiring_step, judging_step, seeing_step, seen_in_generation, CutCause, Judged, empty_outbox}
+use Rattle.sbp_world.proofs.Words.Target.{Login, Table, enter_step, held, new_table, place_at, Operation, made, Disk, Told, Desk, Purpose, Sent, address_error, cut, disabled, new_desk, reset_desk, NodeState, Scene, scene, desk_at, login_at, Whole, whole, scene_of, answered, is_barred, serve, cut_all, cut_at, cut_from, after_reset, answer_in, cleared_node, expired, expired_in, judged_scene, new_node, received, received_as, reset_by, seen, ticked, with_layer, ready_from, target_eui, ready_login, sees, sets_key, ticks, alone}
+use Rattle.sbp_world.proofs.Words.World.{FitsAgent, FitsLogin, FitsOperation, FitsSeat, Holds, IsOfKnown, FittingLaw, TargetFits}
 use Rattle.bus_transactions.proofs.FitCalls.{Answering, Asking, Calm, no_ask, no_leaving}
 use Rattle.bus_transactions.proofs.FitJudged.{IsFoundAs, bytes_of, found_as, no_gives, not_complete, source_fits, spelled}
 use Rattle.bus_transactions.proofs.Fits.{no_bytes}
 use Rattle.bus_transactions.proofs.FitSteps.{disowns_same, expires_same, goes, judges_same, new_goes, replicate_or, sees_goes}
-use Rattle.label_table.specs.declared.reply.Stale.{Stale}
-use Rattle.label_table.specs.Layer.{Layer, Finding, of_generation, of_grammar, of_label, of_response, of_again, of_request, expiring_step, judging_step, seeing_step, seen_in_generation}
 use Rattle.label_table.specs.History as wire
-use Rattle.login_table.specs.declared.login.Login.{Login}
-use Rattle.login_table.specs.Table.{Table, enter_step, held, new_table, place_at}
-use Rattle.mgmt_agent.specs.declared.operation.Operation.{Operation}
 use Rattle.mgmt_agent.specs.Machine as management
-use Rattle.config_rom.specs.Make.{made}
-use Rattle.rbc_disk.specs.Disk.{Disk}
-use Rattle.rbc_disk.specs.Runs.{Told}
 use Rattle.sbp_journal.specs.declared.cause.Cause.TheVariants as ignored
-use Rattle.sbp_journal.specs.declared.cause.CutCause.{CutCause}
 use Rattle.sbp_journal.specs.declared.cause.CutCause.TheVariants as cuts
-use Rattle.sbp_journal.specs.declared.cause.Judged.{Judged}
 use Rattle.sbp_journal.specs.declared.cause.Judged.TheVariants as judged
-use Rattle.sbp_journal.specs.Outgoings.{empty_outbox}
-use Rattle.sbp_target.specs.declared.desk.Desk.{Desk}
-use Rattle.sbp_target.specs.declared.purpose.Purpose.{Purpose}
-use Rattle.sbp_target.specs.declared.purpose.Sent.{Sent}
-use Rattle.target_base.specs.Addresses.{address_error}
-use Rattle.sbp_target.specs.Agents.{cut}
-use Rattle.sbp_target.specs.Desks.{disabled, new_desk, reset_desk}
-use Rattle.sbp_target.specs.Nodes.{NodeState, Scene, scene, desk_at, login_at}
-use Rattle.sbp_target.specs.Replies.{Whole, whole, scene_of}
-use Rattle.sbp_target.specs.Serving.{answered, is_barred, request_step, serve}
-use Rattle.sbp_target.specs.Units.{cut_all, cut_at, cut_from}
-use Rattle.sbp_target.specs.Receiving.{after_reset, answer_in, cleared_node, expired, expired_in, judged_scene, new_node, received, received_as, reset_by, seen, ticked, with_layer}
-use Rattle.target_base.specs.Beginning.{ready_from, target_eui}
-use Rattle.target_base.specs.Beginning.{ready_login}
-use Rattle.sbp_target.specs.Calls.{sees, sets_key, ticks, alone}
-use Rattle.sbp_world.specs.FitTarget.{AreIds, Expires, Fits, FitsAgent, FitsLogin, FitsOperation, FitsSeat, Holds, IsOfKnown, MayReceive, FittingLaw, Receives, TargetFits}
+use Rattle.sbp_target.specs.Serving.{request_step}
+use Rattle.sbp_world.specs.FitTarget.{AreIds, Expires, Fits, MayReceive, Receives}
 use Rattle.sbp_world.proofs.FitTarget.Agents.{new_fits, quads_bytes}
 use Rattle.sbp_world.proofs.FitTarget.Demands.{answer_small}
 use Rattle.sbp_world.proofs.FitTarget.Made.{answering_keeps, answers_all, asking_keeps, calm_leaves}

@@ -1,11 +1,8 @@
 -- What is said of a call of a target so far is kept by its steps.
-use Rattle.std.proofs.Common.{ℕ, ◌^◌, ◌<◌, List}
-use Rattle.async_packet.specs.Packet.{Packet, header_in}
-use Rattle.bus_transactions.specs.Wire.{Reply, is_reply}
+use Rattle.sbp_world.proofs.Words.Std.{ℕ, ◌^◌, ◌<◌, List}
+use Rattle.sbp_world.proofs.Words.Wire.{Packet, header_in, Reply, is_reply, Layer, IsRequestOf}
+use Rattle.sbp_world.proofs.Words.Target.{Purpose}
 use Rattle.bus_transactions.proofs.FitCalls.{Answering, Asking, Calm, answering_answers, answering_asks, answering_disowns, answering_tells, asking_asks, asking_disowns, asking_tells, calm_disowns, calm_tells}
-use Rattle.label_table.specs.Layer.{Layer}
-use Rattle.label_table.specs.Requests.{IsRequestOf}
-use Rattle.sbp_target.specs.declared.purpose.Purpose.{Purpose}
 use Rattle.sbp_world.proofs.FitTarget.Pass.{Keeps, Leaves}
 use Rattle.sbp_world.proofs.FitTarget.Served.{Answers}
 

@@ -1,39 +1,21 @@
 -- The management agent asks for addresses of 48 bits, of the node whose operation is under way; and what it makes of the logins.
-use Rattle.std.proofs.Common.{arith, ◌≡◌, refl, sym, ap, ◌∙◌, subst, ℕ, ◌+◌, ◌-◌, ◌*◌, ◌^◌, ◌<◌, ◌==◌, not, is_none, Bool, true, false, cond, List, [], ◌∷◌, length, position, Option, Some, None, Result, Ok, Err}
-use Rattle.std.proofs.Math.ListN.{get_or-map}
-use Rattle.sbp_base.specs.Quadlets.{quad}
-use Rattle.bus_transactions.specs.Fitting.{AreBytes}
+use Rattle.sbp_world.proofs.Words.Std.{arith, ◌≡◌, refl, sym, ap, ◌∙◌, subst, ℕ, ◌+◌, ◌-◌, ◌*◌, ◌^◌, ◌<◌, ◌==◌, not, Bool, true, false, cond, List, [], ◌∷◌, length, Option, Some, None, Result, Ok, Err, get_or-map, quad}
+use Rattle.sbp_world.proofs.Words.Wire.{AreBytes}
+use Rattle.sbp_world.proofs.Words.Target.{Login, LoginRequest, Table, back_at, back_step, back_to, enter_at, enter_step, find, id_at, is_denied, is_held, is_last, is_live_of, is_old, one_less, leave_at, leave_step, left_for, place_at, tick_step, without, ManagerStep, Response, Function, Busy, Operation, Status, function_of, number_of, asked_by, decide, decide_function, entries_of, key_at, lacks_key, reads_eui, response_bytes, unit_exists, beside, cut_response, decide_step, decided_as, eui_step, high_eui_at, high_got, low_eui_at, low_got, orb_got, reply_in, reply_to, respond_step, response_written, start_step, start_with, status_step, status_written}
+use Rattle.sbp_world.proofs.Words.Initiator.{Ask, FailCause, ManagementOrb, QueryEntry, login_quads, management_orb, quad_bytes, entries_bytes, entry_quads, query_head, Answer, payload_of, write_failure}
+use Rattle.sbp_world.proofs.Words.World.{FitsLogin, FitsManagement, FitsManager, FitsOperation, FitsPhase, IsOfKnown}
+use Rattle.std.proofs.Common.{is_none, position}
 use Rattle.bus_transactions.proofs.Fits.{bytes_append, bytes_take, no_bytes, put_or}
-use Rattle.login_table.specs.declared.login.Login.{Login}
-use Rattle.login_table.specs.Requests.{LoginRequest}
-use Rattle.login_table.specs.Table.{Table, back_at, back_step, back_to, enter_at, enter_step, find, id_at, is_barred, is_denied, is_held, is_last, is_live_of, is_old, one_less, leave_at, leave_step, left_for, place_at, tick_step, ticked, without}
-use Rattle.mgmt_agent.specs.declared.decision.ManagerStep.{ManagerStep}
+use Rattle.login_table.specs.Table.{is_barred, ticked}
 use Rattle.mgmt_agent.specs.declared.decision.Outcome.{Outcome}
-use Rattle.mgmt_agent.specs.declared.decision.Response.{Response}
 use Rattle.mgmt_agent.specs.declared.decision.Response.TheVariants as responses
-use Rattle.mgmt_agent.specs.declared.function.Function.{Function}
 use Rattle.mgmt_agent.specs.declared.function.Function.TheVariants as functions
-use Rattle.mgmt_agent.specs.declared.operation.Busy.{Busy}
-use Rattle.mgmt_agent.specs.declared.operation.Operation.{Operation}
 use Rattle.mgmt_agent.specs.declared.operation.Phase.{Phase}
 use Rattle.mgmt_agent.specs.declared.operation.Phase.TheVariants as phases
-use Rattle.mgmt_agent.specs.declared.status.Status.{Status}
 use Rattle.mgmt_agent.specs.declared.status.Status.TheVariants as statuses
-use Rattle.mgmt_agent.specs.Statuses.{function_of, number_of}
-use Rattle.mgmt_agent.specs.Decisions.{asked_by, decide, decide_function, entries_of, key_at, lacks_key, reads_eui, response_bytes, unit_exists}
-use Rattle.mgmt_agent.specs.Machine.{Machine, beside, cut_response, decide_step, decided_as, eui_step, fail_step, high_eui_at, high_got, low_eui_at, low_got, orb_got, reply_in, reply_step, reply_to, respond_step, response_written, start_step, start_with, status_step, status_written}
-use Rattle.orb_layout.specs.declared.ask.Ask.{Ask}
+use Rattle.mgmt_agent.specs.Machine.{Machine, fail_step, reply_step}
 use Rattle.orb_layout.specs.declared.ask.Ask.TheVariants as asks
-use Rattle.orb_layout.specs.declared.ask.FailCause.{FailCause}
-use Rattle.orb_layout.specs.declared.management.ManagementOrb.{ManagementOrb}
-use Rattle.orb_layout.specs.declared.query.QueryEntry.{QueryEntry}
-use Rattle.orb_layout.specs.LoginResponses.{login_quads}
 use Rattle.orb_layout.specs.declared.status.StatusKind.TheVariants as kinds
-use Rattle.orb_layout.specs.ManagementOrbs.{management_orb}
-use Rattle.orb_layout.specs.Pointers.{quad_bytes}
-use Rattle.orb_layout.specs.QueryResponses.{entries_bytes, entry_quads, query_head}
-use Rattle.orb_layout.specs.Replies.{Answer, payload_of, write_failure}
-use Rattle.sbp_world.specs.FitTarget.{FitsLogin, FitsManagement, FitsManager, FitsOperation, FitsPhase, IsOfKnown}
 use Rattle.sbp_world.proofs.FitTarget.Agents.{BytesIn, BytesRead, FitsAsk, offset_fits, payload_bytes, quads_bytes, status_small}
 
 module _ (known : ℕ → Type 0) where

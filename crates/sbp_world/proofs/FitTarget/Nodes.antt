@@ -1,25 +1,12 @@
 -- What fits stays so where a part of a target changes.
-use Rattle.std.proofs.Common.{arith, ◌≡◌, refl, sym, ◌∙◌, subst, ℕ, ◌^◌, ◌<◌, ◌≤◌, nat_le, ◌==◌, Bool, true, false, cond, List, length, Option, Some, None}
-use Rattle.std.proofs.lemmas.Bool.Decides.{nat_tests}
-use Rattle.std.proofs.Math.ListN.{length-set}
-use Rattle.async_packet.specs.Fields.{largest}
-use Rattle.bus_transactions.specs.Fitting.{AreBytes, FitsRequest}
+use Rattle.sbp_world.proofs.Words.Std.{arith, ◌≡◌, refl, sym, ◌∙◌, subst, ℕ, ◌^◌, ◌<◌, ◌≤◌, nat_le, ◌==◌, Bool, true, false, cond, List, length, Option, Some, None, nat_tests, length-set}
+use Rattle.sbp_world.proofs.Words.Wire.{largest, AreBytes, FitsRequest, Body, block_read, block_write, quadlet_read, Layer}
+use Rattle.sbp_world.proofs.Words.Target.{Login, Table, Desk, Purpose, Sent, agent_body, new_desk, manager_body, NodeState, login_at, with_desk}
+use Rattle.sbp_world.proofs.Words.Initiator.{Ask, Read, Write, Nothing}
+use Rattle.sbp_world.proofs.Words.World.{FitsAgent, FitsManager, FitsSeat, IsOfKnown}
 use Rattle.bus_transactions.proofs.Fits.{put_or}
-use Rattle.label_table.specs.Bodies.{Body, block_read, block_write, quadlet_read}
-use Rattle.label_table.specs.Layer.{Layer}
-use Rattle.login_table.specs.declared.login.Login.{Login}
-use Rattle.login_table.specs.Table.{Table}
 use Rattle.mgmt_agent.specs.Machine as management
-use Rattle.orb_layout.specs.declared.ask.Ask.{Ask}
-use Rattle.orb_layout.specs.declared.ask.Ask.TheVariants.{Read, Write, Nothing}
-use Rattle.sbp_target.specs.declared.desk.Desk.{Desk}
-use Rattle.sbp_target.specs.declared.purpose.Purpose.{Purpose}
-use Rattle.sbp_target.specs.declared.purpose.Sent.{Sent}
-use Rattle.sbp_target.specs.Agents.{agent_body}
-use Rattle.sbp_target.specs.Desks.{new_desk}
-use Rattle.sbp_target.specs.Management.{manager_body}
-use Rattle.sbp_target.specs.Nodes.{NodeState, login_at, with_desk}
-use Rattle.sbp_world.specs.FitTarget.{Fits, FitsAgent, FitsManager, FitsSeat, IsOfKnown}
+use Rattle.sbp_world.specs.FitTarget.{Fits}
 use Rattle.sbp_world.proofs.FitTarget.Agents.{FitsAsk}
 use Rattle.sbp_world.proofs.FitTarget.Manager.{AllTurn}
 

@@ -1,42 +1,15 @@
 -- What is kept by telling, by giving up a transaction with a known node, and by asking a known node for what fits a packet, is kept by all
 -- that a target does behind its answer; and what fits stays so.
-use Rattle.std.proofs.Common.{arith, ◌≡◌, refl, subst, ℕ, ◌^◌, ◌<◌, ◌≤◌, nat_lt, is_some, Bool, true, false, cond, List, [], ◌∷◌, ◌++◌, length, Option, Some, None}
-use Rattle.async_packet.specs.Labels.{LabelParts}
-use Rattle.bus_transactions.specs.Fitting.{AreBytes, FitsRequest}
-use Rattle.bus_transactions.specs.Steps.{IsPlainSide, with_asked}
-use Rattle.label_table.specs.declared.judgement.Asked.{Asked}
-use Rattle.label_table.specs.Bodies.{Body, block_write}
-use Rattle.label_table.specs.Layer.{Layer, asking_step, disowning_step, free_labels}
-use Rattle.login_table.specs.declared.login.Login.{Login}
-use Rattle.login_table.specs.Table.{is_live}
-use Rattle.media_bay.specs.Unsolicited.{block, block_head}
-use Rattle.orb_layout.specs.declared.ask.Ask.{Ask}
-use Rattle.orb_layout.specs.declared.ask.FailCause.{FailCause}
+use Rattle.sbp_world.proofs.Words.Std.{arith, ◌≡◌, refl, subst, ℕ, ◌^◌, ◌<◌, ◌≤◌, nat_lt, is_some, Bool, true, false, cond, List, [], ◌∷◌, ◌++◌, length, Option, Some, None}
+use Rattle.sbp_world.proofs.Words.Wire.{LabelParts, AreBytes, FitsRequest, IsPlainSide, with_asked, Asked, Body, block_write, Layer, asking_step, disowning_step, free_labels, CutCause, Outgoing, Side, OutboxState}
+use Rattle.sbp_world.proofs.Words.Target.{Login, is_live, block, block_head, Outcome, AgentStep, Which, Main, Ahead, Machine, is_under_way, state_in, is_reset, lost_step, Purpose, Sent, promoted_desk, reset_desk, request_step, sent_by, tell_step, tell_ran, tell_dead, tell_ended, NodeState, Scene, scene, desk_at, login_at, with_agent, agent_body, disowned, without_ahead, dropped_by, promoted_by, noted, main_sent, main_asked, ask_main, lost_by, lose, ahead_sent, ahead_asked, after_ahead, send_ahead, after_loss, lose_main, after_main, follow, sent_to, told_cut, cut, unsolicited_by, announce_from, cut_all, Announced, pushes, stay, withholds}
+use Rattle.sbp_world.proofs.Words.Initiator.{Ask, FailCause, StatusKind}
+use Rattle.sbp_world.proofs.Words.World.{FitsAgent, FitsLogin, IsOfKnown}
 use Rattle.orb_layout.specs.declared.ask.FailCause.TheVariants as causes
-use Rattle.orb_layout.specs.declared.status.StatusKind.{StatusKind}
-use Rattle.rbc_disk.specs.declared.command.Outcome.{Outcome}
-use Rattle.command_agent.specs.declared.step.AgentStep.{AgentStep}
-use Rattle.command_agent.specs.declared.step.Which.{Which}
-use Rattle.command_agent.specs.declared.step.Which.TheVariants.{Main, Ahead}
-use Rattle.command_agent.specs.Machine.{Machine, is_under_way, state_in}
-use Rattle.command_agent.specs.Steps.{is_reset, lost_step}
-use Rattle.sbp_journal.specs.declared.cause.CutCause.{CutCause}
-use Rattle.sbp_journal.specs.declared.outbox.Outgoing.{Outgoing}
-use Rattle.sbp_journal.specs.declared.side.Side.{Side}
-use Rattle.sbp_journal.specs.Outgoings.{OutboxState}
-use Rattle.sbp_target.specs.declared.purpose.Purpose.{Purpose}
 use Rattle.sbp_target.specs.declared.purpose.Purpose.TheVariants as purposes
-use Rattle.sbp_target.specs.declared.purpose.Sent.{Sent}
-use Rattle.sbp_target.specs.Desks.{promoted_desk, reset_desk}
-use Rattle.sbp_target.specs.Sending.{request_step, sent_by}
-use Rattle.sbp_target.specs.Telling.{tell_step, tell_ran, tell_dead, tell_ended}
-use Rattle.sbp_target.specs.Nodes.{NodeState, Scene, scene, desk_at, login_at, with_agent}
-use Rattle.sbp_target.specs.Agents.{agent_body, disowned, without_ahead, dropped_by, promoted_by, noted, main_sent, main_asked, ask_main, lost_by, lose, ahead_sent, ahead_asked, after_ahead, send_ahead, after_loss, lose_main, after_main, follow, sent_to, told_cut, cut}
-use Rattle.sbp_target.specs.Units.{unsolicited_by, announce_from, cut_all}
-use Rattle.sbp_world.specs.FitTarget.{Fits, FitsAgent, FitsLogin, IsOfKnown}
+use Rattle.sbp_world.specs.FitTarget.{Fits}
 use Rattle.sbp_world.proofs.FitTarget.Agents.{FitsAsk, lost_fits, quads_bytes, reset_fits}
 use Rattle.sbp_world.proofs.FitTarget.Nodes.{IfBody, agent_body_fits, fits_desk, fits_layer, none_main, seat_reset}
-use Rattle.sbp_target.specs.Histories.Moves.{Announced, pushes, stay, withholds}
 use Rattle.sbp_target.proofs.Histories.Moved.{announced_moves}
 use Rattle.sbp_target.proofs.Histories.Views.{cuts_keep, heard_live, kept}
 

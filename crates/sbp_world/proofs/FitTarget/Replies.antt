@@ -1,43 +1,14 @@
 -- What is kept by telling, giving up and asking is kept by all that a target does behind a response, a time-out, and the start of an operation.
-use Rattle.std.proofs.Common.{◌≡◌, refl, sym, ◌∙◌, subst, ℕ, zero, suc, ◌+◌, ◌&&◌, nat_lt, is_some, Bool, true, false, cond, length, Option, Some, None}
-use Rattle.async_packet.specs.Labels.{LabelParts}
-use Rattle.label_table.specs.Bodies.{Body}
-use Rattle.label_table.specs.Layer.{Layer}
-use Rattle.login_table.specs.declared.login.Login.{Login}
-use Rattle.login_table.specs.Table.{Table}
-use Rattle.orb_layout.specs.declared.ask.Ask.{Ask}
-use Rattle.orb_layout.specs.declared.ask.FailCause.{FailCause}
+use Rattle.sbp_world.proofs.Words.Std.{◌≡◌, refl, sym, ◌∙◌, subst, ℕ, zero, suc, ◌+◌, ◌&&◌, nat_lt, is_some, Bool, true, false, cond, length, Option, Some, None}
+use Rattle.sbp_world.proofs.Words.Wire.{LabelParts, Body, Layer, CutCause, OutboxState}
+use Rattle.sbp_world.proofs.Words.Target.{Login, Table, disk_at, Told, AgentStep, Which, Main, Ahead, Machine, is_under_way, abort_step, lost_step, reply_step, Decision, Effect, ManagerStep, Operation, Desk, Purpose, Sent, is_that, taken, which_in, request_step, Scene, scene, desk_at, login_at, with_desk, follow, clear_from, clear_unit, cut_all, stage, Whole, scene_of, came, changed_by, announced_by, follow_all, advanced_with, advance, plain_at, replied, replied_with, served_login, replied_by, replied_to, manager_body, place_in, cut_placed, tell_left, tell_failed, effect_by, decided_by, with_manager, manager_lost, lost_in, lose_operation, manager_sent, manager_asked, ask_manager, managed_with, managed_in, manage, concluded, expired_with, expired_by, expire_agent, timed_out}
+use Rattle.sbp_world.proofs.Words.Initiator.{Ask, FailCause, Answer, NoLabel, Expired}
+use Rattle.sbp_world.proofs.Words.World.{BytesTold, FitsAgent, FitsLogin, FitsOperation, FitsSeat, IsOfKnown}
 use Rattle.orb_layout.specs.declared.ask.FailCause.TheVariants as causes
-use Rattle.orb_layout.specs.Replies.{Answer, NoLabel, Expired}
-use Rattle.rbc_disk.specs.Disk.{disk_at}
-use Rattle.rbc_disk.specs.Runs.{Told}
-use Rattle.command_agent.specs.declared.step.AgentStep.{AgentStep}
-use Rattle.command_agent.specs.declared.step.Which.{Which}
-use Rattle.command_agent.specs.declared.step.Which.TheVariants.{Main, Ahead}
-use Rattle.command_agent.specs.Machine.{Machine, is_under_way}
-use Rattle.command_agent.specs.Steps.{abort_step, lost_step, reply_step}
-use Rattle.mgmt_agent.specs.declared.decision.Decision.{Decision}
-use Rattle.mgmt_agent.specs.declared.decision.Effect.{Effect}
 use Rattle.mgmt_agent.specs.declared.decision.Effect.TheVariants as effects
-use Rattle.mgmt_agent.specs.declared.decision.ManagerStep.{ManagerStep}
-use Rattle.mgmt_agent.specs.declared.operation.Operation.{Operation}
 use Rattle.mgmt_agent.specs.Machine as management
-use Rattle.sbp_journal.specs.declared.cause.CutCause.{CutCause}
 use Rattle.sbp_journal.specs.declared.cause.CutCause.TheVariants as cuts
-use Rattle.sbp_journal.specs.Outgoings.{OutboxState}
-use Rattle.sbp_target.specs.declared.desk.Desk.{Desk}
-use Rattle.sbp_target.specs.declared.purpose.Purpose.{Purpose}
 use Rattle.sbp_target.specs.declared.purpose.Purpose.TheVariants as purposes
-use Rattle.sbp_target.specs.declared.purpose.Sent.{Sent}
-use Rattle.sbp_target.specs.Desks.{is_that, taken, which_in}
-use Rattle.sbp_target.specs.Sending.{request_step}
-use Rattle.sbp_target.specs.Nodes.{Scene, scene, desk_at, login_at, with_desk}
-use Rattle.sbp_target.specs.Agents.{follow}
-use Rattle.sbp_target.specs.Units.{clear_from, clear_unit, cut_all}
-use Rattle.sbp_target.specs.Replies.{stage, Whole, scene_of, came, changed_by, announced_by, follow_all, advanced_with, advance, plain_at, replied, replied_with, served_login, replied_by, replied_to}
-use Rattle.sbp_target.specs.Management.{manager_body, place_in, cut_placed, tell_left, tell_failed, effect_by, decided_by, with_manager, manager_lost, lost_in, lose_operation, manager_sent, manager_asked, ask_manager, managed_with, managed_in, manage}
-use Rattle.sbp_target.specs.Receiving.{concluded, expired_with, expired_by, expire_agent, timed_out}
-use Rattle.sbp_world.specs.FitTarget.{BytesTold, FitsAgent, FitsLogin, FitsOperation, FitsSeat, IsOfKnown}
 use Rattle.sbp_world.proofs.FitTarget.Agents.{BytesIn, FitsAsk, FitsStep, abort_fits, lost_fits, reply_fits}
 use Rattle.sbp_world.proofs.FitTarget.Manager.{FitsReply, managed_fits}
 use Rattle.sbp_world.proofs.FitTarget.Nodes.{IfBody, fits_desk, fits_layer, fits_manager, manager_body_fits, none_main}

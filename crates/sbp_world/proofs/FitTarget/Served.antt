@@ -1,44 +1,18 @@
 -- A request that is served takes what is said before its answer to what is said behind it, by an answer that fits.
-use Rattle.std.proofs.Common.{arith, ◌≡◌, refl, sym, ap, ◌∙◌, subst, ℕ, ◌+◌, ◌^◌, ◌<◌, ◌&&◌, not, is_none, Bool, true, false, cond, List, [], ◌∷◌, ◌++◌, length, take, drop, Option, Some, None, Result, Ok, Err}
-use Rattle.byteorder.specs.Endian.{big_bytes}
-use Rattle.async_packet.specs.Packet.{Packet, header_in}
-use Rattle.bus_transactions.specs.Fitting.{AreBytes, FitsAnswer}
-use Rattle.bus_transactions.specs.Steps.{answer_to}
+use Rattle.sbp_world.proofs.Words.Std.{arith, ◌≡◌, refl, sym, ap, ◌∙◌, subst, ℕ, ◌+◌, ◌^◌, ◌<◌, ◌&&◌, not, Bool, true, false, cond, List, [], ◌∷◌, ◌++◌, length, take, drop, Option, Some, None, Result, Ok, Err, big_bytes}
+use Rattle.sbp_world.proofs.Words.Wire.{Packet, header_in, AreBytes, FitsAnswer, answer_to, Gives, Layer, answering_step, Outgoing, Side, OutboxState}
+use Rattle.sbp_world.proofs.Words.Target.{Login, if_of_node, is_live, Busy, PointRefusal, Machine, present_of, state_in, asks, doorbell_step, point_step, Access, AgentRegister, Demand, Desk, Purpose, complete, conflict_error, demand_of, is_lock, offset_in, reached, register_at, row_of, pointed_desk, answer_step, answered_by, with_side, NodeState, Scene, scene, desk_at, login_at, with_desk, with_agent, cut, orb_of, is_barred_at, answered, state_number, last_pointer, pointer_bytes, asked_in, pointed_by, point, rung_by, ring, enabled, accessed_by, started_by, start, served_as, serve, is_barred}
+use Rattle.sbp_world.proofs.Words.Initiator.{Ask, OrbPointer, IsPointer, pointer_high, pointer_low}
+use Rattle.sbp_world.proofs.Words.World.{FitsAgent, FitsLogin, IsOfKnown}
+use Rattle.std.proofs.Common.{is_none}
 use Rattle.bus_transactions.proofs.Fits.{bytes_append, bytes_drop, bytes_quad, bytes_take, no_bytes}
-use Rattle.label_table.specs.Bodies.{Gives}
-use Rattle.label_table.specs.Layer.{Layer, answering_step}
-use Rattle.login_table.specs.declared.login.Login.{Login}
-use Rattle.login_table.specs.Table.{if_of_node, is_live}
-use Rattle.orb_layout.specs.declared.ask.Ask.{Ask}
-use Rattle.orb_layout.specs.declared.pointer.OrbPointer.{OrbPointer}
-use Rattle.orb_layout.specs.Pointers.{IsPointer, pointer_high, pointer_low}
-use Rattle.mgmt_agent.specs.declared.operation.Busy.{Busy}
 use Rattle.mgmt_agent.specs.Machine as management
-use Rattle.command_agent.specs.declared.step.PointRefusal.{PointRefusal}
 use Rattle.command_agent.specs.declared.step.PointRefusal.TheVariants as refusals
-use Rattle.command_agent.specs.Machine.{Machine, present_of, state_in}
-use Rattle.command_agent.specs.Steps.{asks, doorbell_step, point_step}
 use Rattle.sbp_journal.specs.declared.cause.CutCause.TheVariants as cuts
-use Rattle.sbp_journal.specs.declared.outbox.Outgoing.{Outgoing}
-use Rattle.sbp_journal.specs.declared.side.Side.{Side}
 use Rattle.sbp_journal.specs.declared.side.Side.TheVariants as sides
-use Rattle.sbp_journal.specs.Outgoings.{OutboxState}
-use Rattle.target_base.specs.declared.address.Access.{Access}
 use Rattle.target_base.specs.declared.address.Access.TheVariants as accesses
-use Rattle.target_base.specs.declared.address.AgentRegister.{AgentRegister}
-use Rattle.target_base.specs.declared.address.Demand.{Demand}
 use Rattle.target_base.specs.declared.address.Demand.TheVariants as demands
-use Rattle.sbp_target.specs.declared.desk.Desk.{Desk}
-use Rattle.sbp_target.specs.declared.purpose.Purpose.{Purpose}
-use Rattle.target_base.specs.Addresses.{complete, conflict_error, demand_of, is_lock, offset_in, reached, register_at, row_of}
-use Rattle.sbp_target.specs.Desks.{pointed_desk}
-use Rattle.sbp_target.specs.Sending.{answer_step, answered_by, with_side}
-use Rattle.sbp_target.specs.Nodes.{NodeState, Scene, scene, desk_at, login_at, with_desk, with_agent}
-use Rattle.sbp_target.specs.Agents.{cut}
-use Rattle.sbp_target.specs.Telling.{orb_of}
-use Rattle.target_base.specs.Logins.{is_barred_at}
-use Rattle.sbp_target.specs.Serving.{answered, state_number, last_pointer, pointer_bytes, asked_in, pointed_by, point, rung_by, ring, enabled, accessed_by, started_by, start, served_as, serve, is_barred}
-use Rattle.sbp_world.specs.FitTarget.{Fits, FitsAgent, FitsLogin, IsOfKnown}
+use Rattle.sbp_world.specs.FitTarget.{Fits}
 use Rattle.sbp_world.proofs.FitTarget.Agents.{FitsAsk, FitsPoint, FitsRing, point_fits, ring_fits}
 use Rattle.bus_transactions.proofs.FitJudged.{BytesOf, no_gives}
 use Rattle.sbp_world.proofs.FitTarget.Demands.{FitsAccess, FitsDemand, demand_fits}

@@ -1,34 +1,14 @@
 -- An abort that is done: its request leaves, and pins the slot of its ORB.
-use Rattle.std.proofs.Common.{arith, ◌≡◌, refl, sym, ◌∙◌, ap, subst, ℕ, suc, ◌+◌, ◌<◌, ◌==◌, not, Bool, true, false, List, [], ◌∷◌, length, Option, Some, None}
-use Rattle.std.proofs.lemmas.Bool.Decides.{nat_tests}
+use Rattle.sbp_world.proofs.Words.Std.{arith, ◌≡◌, refl, sym, ◌∙◌, ap, subst, ℕ, suc, ◌+◌, ◌<◌, ◌==◌, not, Bool, true, false, List, [], ◌∷◌, length, Option, Some, None, nat_tests}
+use Rattle.sbp_world.proofs.Words.Wire.{LabelParts, Asked, Layer, Moment, said, OutboxState, empty_outbox, Outgoing, node_of, topology_at}
+use Rattle.sbp_world.proofs.Words.Initiator.{Purpose, InitiatorState, new_state, refusal, act_step, asked_as, asked_for, done_step, facts_with, judged_as, manage_demand, Turn}
+use Rattle.sbp_world.proofs.Words.Laws.{event_of}
+use Rattle.sbp_world.proofs.Words.World.{handed_out, acted, acted_by, asked, posted, sent, sent_all, sent_to, told_all, WorldState, initiator_at, with_initiator, Pinned, AreRows, history, AreHosts, IsHost}
 use Rattle.std.proofs.lemmas.List.{length-set}
-use Rattle.async_packet.specs.Labels.{LabelParts}
-use Rattle.label_table.specs.declared.judgement.Asked.{Asked}
-use Rattle.label_table.specs.Layer.{Layer}
 use Rattle.orb_list.specs.Table as table
-use Rattle.sbp_journal.specs.Run.{Moment, said}
-use Rattle.sbp_journal.specs.Outgoings.{OutboxState, empty_outbox}
 use Rattle.sbp_journal.specs.declared.event.Action.TheVariants as actions
 use Rattle.sbp_journal.specs.declared.event.Event.TheVariants as events
 use Rattle.sbp_journal.specs.declared.note.Note.TheVariants as notes
-use Rattle.sbp_journal.specs.declared.outbox.Outgoing.{Outgoing}
-use Rattle.sbp_initiator.specs.declared.purpose.Purpose.{Purpose}
-use Rattle.sbp_initiator.specs.declared.state.InitiatorState.{InitiatorState}
-use Rattle.sbp_initiator.specs.Initiators.{new_state}
-use Rattle.sbp_initiator.specs.Refusals.{refusal}
-use Rattle.sbp_initiator.specs.Acting.{act_step, asked_as, asked_for, done_step, facts_with, judged_as, manage_demand}
-use Rattle.sbp_initiator.specs.Effects.{Turn}
-use Rattle.sbp_laws.specs.Turns.{event_of}
-use Rattle.sbp_bus.specs.Generations.{node_of, topology_at}
-use Rattle.sbp_world.specs.Handing.{handed_out}
-use Rattle.sbp_world.specs.Lines.{acted, acted_by}
-use Rattle.sbp_world.specs.Sending.{asked, posted, sent, sent_all, sent_to}
-use Rattle.sbp_world.specs.Telling.{told_all}
-use Rattle.sbp_world.specs.Worlds.{WorldState, initiator_at, with_initiator}
-use Rattle.sbp_world.specs.Hosts.Calls.{Pinned}
-use Rattle.sbp_world.specs.Hosts.Fits.{AreRows}
-use Rattle.sbp_world.specs.Hosts.Handing.{history}
-use Rattle.sbp_world.specs.Hosts.Worlds.{AreHosts, IsHost}
 use Rattle.sbp_world.proofs.Hosts.Acts.{act_left}
 use Rattle.sbp_world.proofs.Hosts.Beside.{beside_rests, pin_told}
 use Rattle.sbp_world.proofs.Hosts.Hosting.{hands_keep, hosts_are, state_here, state_there}

@@ -1,33 +1,13 @@
 -- What an action that is done leaves of an initiator's layer, tells and asks for.
-use Rattle.std.proofs.Common.{arith, ◌≡◌, refl, sym, ◌∙◌, ap, ℕ, zero, suc, ◌+◌, ◌==◌, nat_eq, is_some, Bool, true, false, cond, List, [], ◌∷◌, ◌++◌, Option, Some, None, Result, Ok, Err}
-use Rattle.label_table.specs.declared.judgement.Asked.{Asked}
-use Rattle.label_table.specs.Layer.{Layer, asking_step}
-use Rattle.orb_list.specs.declared.fault.ListFault.{ListFault}
-use Rattle.orb_list.specs.declared.list.PresentList.{PresentList}
-use Rattle.orb_list.specs.Lists.{ListState, dummy_lists, high_lists, low_lists}
-use Rattle.orb_list.specs.Table.{find_in, may_prepare, next_ticket, orb_number, prepare_at, prepare_step}
-use Rattle.orb_list.specs.Tickets.{TicketParts}
-use Rattle.sbp_journal.specs.Buffers.{buffer_of}
-use Rattle.sbp_journal.specs.Outgoings.{OutboxState, empty_outbox}
-use Rattle.sbp_journal.specs.Run.{Moment, said}
-use Rattle.sbp_journal.specs.declared.event.Action.{Action}
+use Rattle.sbp_world.proofs.Words.Std.{arith, ◌≡◌, refl, sym, ◌∙◌, ap, ℕ, zero, suc, ◌+◌, ◌==◌, nat_eq, is_some, Bool, true, false, cond, List, [], ◌∷◌, ◌++◌, Option, Some, None, Result, Ok, Err}
+use Rattle.sbp_world.proofs.Words.Wire.{Asked, Layer, asking_step, buffer_of, OutboxState, empty_outbox, Moment, said, Action, Cmd, Note, Outgoing}
+use Rattle.sbp_world.proofs.Words.Initiator.{ListFault, PresentList, ListState, dummy_lists, high_lists, low_lists, find_in, may_prepare, next_ticket, orb_number, prepare_at, prepare_step, TicketParts, Demand, Purpose, InitiatorState, act_step, asked_as, asked_for, demand_of, demanded_as, done_step, dummy_for, facts_with, judged_as, link_as, link_step, login_id, low_as, low_step, managed_by, orb_by, pinned_for, put_as, put_step, ring_for, with_running, asked_by, prepared_as, put_lists, Turn, told, refusal, rings, is_unwritten, last_linked, wanted_body}
+use Rattle.sbp_world.proofs.Words.Laws.{Host, host_at, list_begins}
+use Rattle.sbp_world.proofs.Words.World.{behind}
 use Rattle.sbp_journal.specs.declared.event.Action.TheVariants as actions
-use Rattle.sbp_journal.specs.declared.event.Cmd.{Cmd}
-use Rattle.sbp_journal.specs.declared.note.Note.{Note}
 use Rattle.sbp_journal.specs.declared.note.Note.TheVariants as notes
 use Rattle.sbp_journal.specs.declared.operation.Operation.TheVariants as operations
-use Rattle.sbp_journal.specs.declared.outbox.Outgoing.{Outgoing}
 use Rattle.sbp_journal.specs.declared.side.Side.TheVariants as sides
-use Rattle.sbp_initiator.specs.declared.purpose.Demand.{Demand}
-use Rattle.sbp_initiator.specs.declared.purpose.Purpose.{Purpose}
-use Rattle.sbp_initiator.specs.declared.state.InitiatorState.{InitiatorState}
-use Rattle.sbp_initiator.specs.Acting.{act_step, asked_as, asked_for, demand_of, demanded_as, done_step, dummy_for, facts_with, judged_as, link_as, link_step, login_id, low_as, low_step, managed_by, orb_by, pinned_for, put_as, put_step, ring_for, with_running}
-use Rattle.sbp_initiator.specs.Commands.{asked_by, prepared_as, put_lists}
-use Rattle.sbp_initiator.specs.Effects.{Turn, told}
-use Rattle.sbp_initiator.specs.Refusals.{refusal, rings}
-use Rattle.sbp_initiator.specs.States.{is_unwritten, last_linked, wanted_body}
-use Rattle.sbp_laws.specs.Hosts.{Host, host_at, list_begins}
-use Rattle.sbp_world.specs.Hosts.Calls.{behind}
 use Rattle.sbp_world.proofs.Hosts.Layered.{AreTame, is_tame, tame_more}
 use Rattle.sbp_world.proofs.Hosts.Listed.{behind_more}
 use Rattle.sbp_world.proofs.Hosts.PointerNotes.{pointer}

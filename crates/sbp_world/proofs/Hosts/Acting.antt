@@ -1,27 +1,13 @@
 -- The line of an action, for a statement that lines carry on.
-use Rattle.std.proofs.Common.{◌≡◌, refl, sym, ◌∙◌, ap, subst, ℕ, ◌+◌, ◌<◌, false, List, [], ◌∷◌, length, Option, Some, None}
-use Rattle.std.proofs.lemmas.List.{set-get_or}
-use Rattle.packet_store.specs.Stored.{Stored}
-use Rattle.sbp_journal.specs.Run.{Moment}
-use Rattle.sbp_journal.specs.Wire.{terms}
-use Rattle.sbp_journal.specs.Outgoings.{empty_outbox}
-use Rattle.sbp_journal.specs.declared.event.Action.{Action}
+use Rattle.sbp_world.proofs.Words.Std.{◌≡◌, refl, sym, ◌∙◌, ap, subst, ℕ, ◌+◌, ◌<◌, false, List, [], ◌∷◌, length, Option, Some, None, set-get_or}
+use Rattle.sbp_world.proofs.Words.Wire.{Stored, Moment, terms, empty_outbox, Action, Outgoing, GenerationsState, node_of}
+use Rattle.sbp_world.proofs.Words.Initiator.{InitiatorState, Demand, act_step, asked_for, demand_of, Turn, new_state}
+use Rattle.sbp_world.proofs.Words.Laws.{event_of}
+use Rattle.sbp_world.proofs.Words.World.{handed_out, acted, acted_by, weight_in, WorldState, initiator_at, with_initiator, AreNotes, history}
 use Rattle.sbp_journal.specs.declared.event.Event.TheVariants as events
 use Rattle.sbp_journal.specs.declared.note.Note.TheVariants as notes
-use Rattle.sbp_journal.specs.declared.outbox.Outgoing.{Outgoing}
 use Rattle.sbp_initiator.proofs.FirstRow.{refusal_law}
-use Rattle.sbp_initiator.specs.declared.state.InitiatorState.{InitiatorState}
-use Rattle.sbp_initiator.specs.declared.purpose.Demand.{Demand}
-use Rattle.sbp_initiator.specs.Acting.{act_step, asked_for, demand_of}
-use Rattle.sbp_initiator.specs.Effects.{Turn}
-use Rattle.sbp_initiator.specs.Initiators.{new_state}
-use Rattle.sbp_bus.specs.Generations.{GenerationsState, node_of}
-use Rattle.sbp_laws.specs.Turns.{event_of}
-use Rattle.sbp_world.specs.Handing.{handed_out}
-use Rattle.sbp_world.specs.Lines.{acted, acted_by, weight_in}
-use Rattle.sbp_world.specs.Worlds.{WorldState, initiator_at, with_initiator}
 use Rattle.sbp_world.proofs.InitiatorForms as initiators
-use Rattle.sbp_world.specs.Hosts.Handing.{AreNotes, history}
 use Rattle.sbp_world.proofs.Hosts.Asked.{IfRequest}
 use Rattle.sbp_world.proofs.Hosts.Carries.{Are, CarriesSent, Does, IsLineOf, asking_hands, note_carried, quiet_hands}
 use Rattle.sbp_world.proofs.Hosts.Liners.{own_notes}

@@ -1,45 +1,18 @@
 -- An action of an initiator.
-use Rattle.std.proofs.Common.{arith, ◌≡◌, refl, sym, ◌∙◌, ap, subst, ℕ, ◌+◌, ◌==◌, not, is_some, Bool, true, false, cond, List, [], ◌∷◌, Option, Some, None, Result, Ok, Err}
-use Rattle.std.proofs.lemmas.Bool.Decides.{nat_tests}
-use Rattle.bus_memory.specs.Memory.{Memory}
-use Rattle.label_table.specs.declared.judgement.Asked.{Asked as Label}
-use Rattle.label_table.specs.Layer.{Layer}
-use Rattle.orb_layout.specs.declared.management.ManagementOrb.{ManagementOrb}
-use Rattle.orb_list.specs.declared.fault.ListFault.{ListFault}
-use Rattle.orb_list.specs.declared.list.Linking.{Linking}
-use Rattle.orb_list.specs.declared.list.PresentList.{PresentList}
-use Rattle.orb_list.specs.declared.slot.Slot.{Slot}
-use Rattle.orb_list.specs.Tickets.{TicketParts}
-use Rattle.orb_list.specs.Requests.{Asked}
+use Rattle.sbp_world.proofs.Words.Std.{arith, ◌≡◌, refl, sym, ◌∙◌, ap, subst, ℕ, ◌+◌, ◌==◌, not, is_some, Bool, true, false, cond, List, [], ◌∷◌, Option, Some, None, Result, Ok, Err, nat_tests}
+use Rattle.sbp_world.proofs.Words.Wire.{Label, Layer, Moment, said, OutboxState, buffer_of, Action, Cmd, Operation, Refusals, refusal_of}
+use Rattle.sbp_world.proofs.Words.Initiator.{Memory, ManagementOrb, ListFault, Linking, PresentList, Slot, TicketParts, Asked, SlotTable, may_prepare, next_ticket, waits_low, waits_high, find_in, waiting, Demand, goes, pointing, Purpose, InitiatorState, ListState, dummy_lists, high_lists, low_lists, manage_lists, pin_lists, stepped, with_slots, asked_by, prepared_as, put_lists, refusal, rows_of, is_unwritten, last_linked, Turn, told, act_step, append_step, asked_as, asked_for, begun, demand_of, demanded_as, done_step, dummy_for, facts_with, judged_as, link_as, link_step, login_id, login_orb, low_as, low_step, manage_start, managed_by, orb_by, pinned_for, put_as, put_step, ring_for, ring_step}
+use Rattle.sbp_world.proofs.Words.World.{AreRows, behind, Beside, Listed, Pinned, Pins}
 use Rattle.orb_list.specs.Table as table
-use Rattle.orb_list.specs.Table.{SlotTable, may_prepare, next_ticket, waits_low, waits_high, find_in, waiting}
-use Rattle.sbp_journal.specs.Run.{Moment, said}
-use Rattle.sbp_journal.specs.Outgoings.{OutboxState}
-use Rattle.sbp_journal.specs.Buffers.{buffer_of}
-use Rattle.sbp_journal.specs.declared.event.Action.{Action}
 use Rattle.sbp_journal.specs.declared.event.Action.TheVariants as actions
-use Rattle.sbp_journal.specs.declared.event.Cmd.{Cmd}
 use Rattle.sbp_journal.specs.declared.note.Note.TheVariants as notes
-use Rattle.sbp_journal.specs.declared.operation.Operation.{Operation}
 use Rattle.sbp_journal.specs.declared.operation.Operation.TheVariants as operations
-use Rattle.sbp_initiator.specs.declared.purpose.Demand.{Demand}
-use Rattle.sbp_session.specs.Moves.{goes, pointing}
 use Rattle.sbp_initiator.specs.declared.purpose.Pointing.TheVariants as pointings
-use Rattle.sbp_initiator.specs.declared.purpose.Purpose.{Purpose}
-use Rattle.sbp_initiator.specs.declared.state.InitiatorState.{InitiatorState}
-use Rattle.orb_list.specs.Lists.{ListState, dummy_lists, high_lists, low_lists, manage_lists, pin_lists, stepped, with_slots}
-use Rattle.sbp_initiator.specs.Commands.{asked_by, prepared_as, put_lists}
-use Rattle.sbp_initiator.specs.Refusals.{refusal, rows_of}
-use Rattle.sbp_initiator.specs.States.{is_unwritten, last_linked}
-use Rattle.sbp_initiator.specs.Effects.{Turn, told}
-use Rattle.sbp_initiator.specs.Acting.{act_step, append_step, asked_as, asked_for, begun, demand_of, demanded_as, done_step, dummy_for, facts_with, judged_as, link_as, link_step, login_id, login_orb, low_as, low_step, manage_start, managed_by, orb_by, pinned_for, put_as, put_step, ring_for, ring_step}
-use Rattle.sbp_journal.specs.Rows.{Refusals, refusal_of}
 use Rattle.sbp_initiator.proofs.Histories.Actions.{Allowed, allowed, allowed_layer}
-use Rattle.sbp_world.specs.Hosts.Fits.{AreRows}
 use Rattle.sbp_world.proofs.Hosts.Appends.{append_rows}
 use Rattle.sbp_world.proofs.Hosts.Beside.{beside_rests}
 use Rattle.sbp_world.proofs.Hosts.Told.{low_told, high_told}
-use Rattle.sbp_world.specs.Hosts.Calls.{behind, Beside, Left, Listed, Pinned, Pins}
+use Rattle.sbp_world.specs.Hosts.Calls.{Left}
 use Rattle.sbp_world.proofs.Hosts.Listed.{pin_of_none, tells, tells_beside, counted_rows}
 
 module _ (past : List Moment) where

@@ -1,23 +1,9 @@
 -- In every run each transaction that is under way in an initiator's layer is with its target.
-use Rattle.std.proofs.Common.{◌≡◌, refl, sym, ◌∙◌, ap, subst, ℕ, ◌+◌, nat_lt, Bool, true, false, cond, List, [], ◌∷◌, Option, Some, None}
-use Rattle.async_packet.specs.Labels.{LabelParts}
-use Rattle.label_table.specs.declared.reply.ReplyKind.{ReplyKind}
-use Rattle.label_table.specs.History.{Told, and_before, forgotten, life, not_begun, under_way}
+use Rattle.sbp_world.proofs.Words.Std.{◌≡◌, refl, sym, ◌∙◌, ap, subst, ℕ, ◌+◌, nat_lt, Bool, true, false, cond, List, [], ◌∷◌, Option, Some, None}
+use Rattle.sbp_world.proofs.Words.Wire.{LabelParts, ReplyKind, Told, and_before, forgotten, life, not_begun, under_way, Layer, expiring_step, judging_step, seeing_step, seen_in_generation, OutboxState, empty_outbox, Moment}
+use Rattle.sbp_world.proofs.Words.Initiator.{Purpose, InitiatorState, act_step, dropped_as, new_state, expire_step, receive_step, interrupted, resets_told, see_step, seen_as, wanted_body, ListState, drop_lists, acts, lets_expire, receives, sees}
 use Rattle.label_table.specs.History as wire
-use Rattle.label_table.specs.Layer.{Layer, expiring_step, judging_step, seeing_step, seen_in_generation}
-use Rattle.sbp_initiator.specs.declared.purpose.Purpose.{Purpose}
 use Rattle.sbp_initiator.specs.declared.purpose.Purpose.TheVariants as purposes
-use Rattle.sbp_initiator.specs.declared.state.InitiatorState.{InitiatorState}
-use Rattle.sbp_initiator.specs.Acting.{act_step}
-use Rattle.sbp_initiator.specs.Effects.{dropped_as}
-use Rattle.sbp_initiator.specs.Initiators.{new_state}
-use Rattle.sbp_initiator.specs.Receiving.{expire_step, receive_step}
-use Rattle.sbp_initiator.specs.Seeing.{interrupted, resets_told, see_step, seen_as}
-use Rattle.sbp_initiator.specs.States.{wanted_body}
-use Rattle.orb_list.specs.Lists.{ListState, drop_lists}
-use Rattle.sbp_journal.specs.Outgoings.{OutboxState, empty_outbox}
-use Rattle.sbp_journal.specs.Run.{Moment}
-use Rattle.sbp_initiator.specs.Histories.Laws.{acts, lets_expire, receives, sees}
 use Rattle.sbp_initiator.proofs.Histories.Over.{sound}
 use Rattle.sbp_world.proofs.Hosts.ActLeft.{act_left}
 use Rattle.sbp_world.proofs.Hosts.Calling.{IsOwn, own_first, own_on}

@@ -1,51 +1,15 @@
 -- What a call leaves of its initiator does not depend on what the outbox has.
-use Rattle.std.proofs.Common.{◌≡◌, refl, ◌∙◌, ap, ℕ, ◌==◌, Bool, true, false, cond, List, [], length, replicate, Option, Some, None, Result, Ok, Err}
-use Rattle.async_packet.specs.Labels.{LabelParts}
-use Rattle.async_packet.specs.Packet.{Packet, header_in, lock, lock_response, read_block, read_block_response, read_quadlet, read_quadlet_response, write_block, write_quadlet, write_response}
-use Rattle.byteorder.specs.Endian.{big_bytes}
-use Rattle.bus_memory.specs.Access.{read_step}
-use Rattle.config_rom.specs.declared.fault.RomFault.{RomFault}
-use Rattle.config_rom.specs.declared.unit.SbpUnit.{SbpUnit}
-use Rattle.config_rom.specs.Reading.{Tree, reading}
-use Rattle.config_rom.specs.Unit.{sbp_unit_of}
-use Rattle.label_table.specs.declared.judgement.Asked.{Asked}
-use Rattle.label_table.specs.declared.reply.Stale.{Stale}
-use Rattle.label_table.specs.Layer.{Finding, Layer, answering_step, asking_step, expiring_step, judging_step, of_again, of_generation, of_grammar, of_label, of_request, of_response, seeing_step}
-use Rattle.media_bay.specs.Unsolicited.{is_block}
-use Rattle.orb_layout.specs.declared.fault.OrbFault.{OrbFault}
-use Rattle.orb_layout.specs.declared.status.StatusBlock.{StatusBlock}
-use Rattle.orb_layout.specs.declared.status.StatusKind.{StatusKind}
+use Rattle.sbp_world.proofs.Words.Std.{◌≡◌, refl, ◌∙◌, ap, ℕ, ◌==◌, Bool, true, false, cond, List, [], length, replicate, Option, Some, None, Result, Ok, Err, big_bytes}
+use Rattle.sbp_world.proofs.Words.Wire.{LabelParts, Packet, header_in, lock, lock_response, read_block, read_block_response, read_quadlet, read_quadlet_response, write_block, write_quadlet, write_response, Asked, Stale, Finding, Layer, answering_step, asking_step, expiring_step, judging_step, of_again, of_generation, of_grammar, of_label, of_request, of_response, seeing_step, OutboxState, Judged, Action, Cmd, OpWord}
+use Rattle.sbp_world.proofs.Words.Target.{RomFault, SbpUnit, Tree, reading, sbp_unit_of, is_block}
+use Rattle.sbp_world.proofs.Words.Initiator.{read_step, OrbFault, StatusBlock, StatusKind, PresentList, ListState, drop_lists, free_lists, high_lists, low_lists, take_lists, write_lists, find_in, TicketParts, Fifo, Demand, Ending, Purpose, Running, InitiatorState, act_step, append_step, counted, asked_as, asked_for, demand_of, demanded_as, done_step, dummy_for, facts_with, judged_as, link_as, link_step, login_id, low_as, low_step, put_as, put_step, ring_for, ring_step, put_lists, Turn, asked_quad, conflict_for, drop_list_step, drop_where, dropped_as, end_own_for, end_own_step, ended_for, ended_step, fail_step, good_end, is_address, is_conflict, known_step, known_where, managed_step, next_quad, quad_got, state_told, stick_step, then_step, told, with_rom, with_unit, addressed, block_at, block_by, block_step, called, expire_step, expired_as, fifo_of, is_foreign, managed_for, present_for, quadlet_at, read_as, receive_step, received, responded_as, respond_step, serve_step, status_step, taken_as, taken_by, type_error, written_as, ends_list, refusal, interrupted, resets_told, see_step, seen_as, counts_for, ending_of, no_marks, status_in, with_quad, Call, acts, done, lets_expire, receives, sees}
 use Rattle.orb_layout.specs.declared.status.StatusKind.TheVariants as kinds
-use Rattle.orb_list.specs.declared.list.PresentList.{PresentList}
-use Rattle.orb_list.specs.Lists.{ListState, drop_lists, free_lists, high_lists, low_lists, take_lists, write_lists}
-use Rattle.orb_list.specs.Table.{find_in}
-use Rattle.orb_list.specs.Tickets.{TicketParts}
-use Rattle.sbp_journal.specs.Outgoings.{OutboxState}
-use Rattle.sbp_journal.specs.declared.cause.Judged.{Judged}
-use Rattle.sbp_journal.specs.declared.event.Action.{Action}
 use Rattle.sbp_journal.specs.declared.event.Action.TheVariants as actions
-use Rattle.sbp_journal.specs.declared.event.Cmd.{Cmd}
 use Rattle.sbp_journal.specs.declared.note.Note.TheVariants as notes
-use Rattle.sbp_journal.specs.declared.operation.OpWord.{OpWord}
 use Rattle.sbp_journal.specs.declared.operation.OpWord.TheVariants as words
-use Rattle.initiator_base.specs.declared.fifos.Fifo.{Fifo}
 use Rattle.initiator_base.specs.declared.fifos.Fifo.TheVariants as fifos
-use Rattle.sbp_initiator.specs.declared.purpose.Demand.{Demand}
-use Rattle.sbp_initiator.specs.declared.purpose.Ending.{Ending}
 use Rattle.sbp_initiator.specs.declared.purpose.Ending.TheVariants as endings
-use Rattle.sbp_initiator.specs.declared.purpose.Purpose.{Purpose}
 use Rattle.sbp_initiator.specs.declared.purpose.Purpose.TheVariants as purposes
-use Rattle.sbp_initiator.specs.declared.purpose.Running.{Running}
-use Rattle.sbp_initiator.specs.declared.state.InitiatorState.{InitiatorState}
-use Rattle.sbp_initiator.specs.Acting.{act_step, append_step, counted, asked_as, asked_for, demand_of, demanded_as, done_step, dummy_for, facts_with, judged_as, link_as, link_step, login_id, low_as, low_step, put_as, put_step, ring_for, ring_step}
-use Rattle.sbp_initiator.specs.Commands.{put_lists}
-use Rattle.sbp_initiator.specs.Effects.{Turn, asked_quad, conflict_for, drop_list_step, drop_where, dropped_as, end_own_for, end_own_step, ended_for, ended_step, fail_step, good_end, is_address, is_conflict, known_step, known_where, managed_step, next_quad, quad_got, state_told, stick_step, then_step, told, with_rom, with_unit}
-use Rattle.sbp_initiator.specs.Receiving.{addressed, block_at, block_by, block_step, called, expire_step, expired_as, fifo_of, is_foreign, managed_for, present_for, quadlet_at, read_as, receive_step, received, responded_as, respond_step, serve_step, status_step, taken_as, taken_by, type_error, written_as}
-use Rattle.sbp_initiator.specs.Refusals.{ends_list, refusal}
-use Rattle.sbp_initiator.specs.Seeing.{interrupted, resets_told, see_step, seen_as}
-use Rattle.sbp_initiator.specs.States.{counts_for, ending_of, no_marks, status_in}
-use Rattle.initiator_base.specs.Quads.{with_quad}
-use Rattle.sbp_initiator.specs.Histories.Laws.{Call, acts, done, lets_expire, receives, sees}
 
 module _ (o p : OutboxState) where
   pick_same : (b : Bool) (w x y z : Turn) → w.1 ≡ x.1 → y.1 ≡ z.1 → (cond b w y).1 ≡ (cond b x z).1

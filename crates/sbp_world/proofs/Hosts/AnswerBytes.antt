@@ -1,17 +1,11 @@
 -- The answer that stands in a buffer, byte by byte.
-use Rattle.std.proofs.Common.{arith, ◌≡◌, refl, sym, ◌∙◌, ap, ℕ, ◌+◌, ◌-◌, ◌*◌, ◌<◌, ◌≤◌, ◌==◌, nat_lt, Bool, true, false, cond, sum, List, [], ◌∷◌, ◌++◌, length, map, take, drop, slice_index_or, length-append}
-use Rattle.std.proofs.Math.ListN.{get_or-append}
-use Rattle.std.proofs.Math.Seq.{get_or-append_right}
-use Rattle.std.proofs.lemmas.Bool.Decides.{nat_tests}
-use Rattle.std.proofs.lemmas.List.{drop-drop, ext_get_or, get_or-map, get_or-take, length-map}
-use Rattle.bus_memory.specs.Windows.{start}
+use Rattle.sbp_world.proofs.Words.Std.{arith, ◌≡◌, refl, sym, ◌∙◌, ap, ℕ, ◌+◌, ◌-◌, ◌*◌, ◌<◌, ◌≤◌, ◌==◌, nat_lt, Bool, true, false, cond, sum, List, [], ◌∷◌, ◌++◌, length, map, take, drop, length-append, get_or-append, get_or-append_right, nat_tests, drop-drop, ext_get_or, get_or-take, length-map}
+use Rattle.sbp_world.proofs.Words.Wire.{Cmd}
+use Rattle.sbp_world.proofs.Words.Initiator.{start, behind, answer_by, answer_in, in_segments, buffer_addresses, plan_of}
+use Rattle.sbp_world.proofs.Words.Laws.{laid_out}
+use Rattle.std.proofs.Common.{slice_index_or}
+use Rattle.std.proofs.lemmas.List.{get_or-map}
 use Rattle.bus_memory.specs.declared.window.Window.TheVariants as windows
-use Rattle.orb_list.specs.Layout.{behind}
-use Rattle.orb_list.specs.Lists.{answer_by, answer_in, in_segments}
-use Rattle.page_table.specs.Buffer.{buffer_addresses}
-use Rattle.sbp_initiator.specs.Commands.{plan_of}
-use Rattle.sbp_journal.specs.declared.event.Cmd.{Cmd}
-use Rattle.sbp_laws.specs.CarriedBytes.{laid_out}
 use Rattle.sbp_world.proofs.Hosts.BytePlaces.{FillsSegments, laid_at, laid_room, place_in, place_of, total}
 use Rattle.sbp_world.proofs.Hosts.ByteReads.{part_at, part_length}
 

@@ -1,16 +1,11 @@
 -- What a slot brings with a good status is the plan of the command that was prepared there last.
-use Rattle.std.proofs.Common.{arith, ◌≡◌, refl, sym, ◌∙◌, ap, ℕ, ◌<◌, nat_eq, Bool, true, false, List, ◌∷◌, length, slice_index_or, slice_set, Option, Some}
-use Rattle.std.proofs.lemmas.Bool.Decides.{nat_tests}
-use Rattle.std.proofs.lemmas.List.{get_or-set_other, get_or-set_same, length-set}
-use Rattle.orb_list.specs.Lists.{no_answer}
-use Rattle.orb_list.specs.declared.answer.AnswerPlan.{AnswerPlan}
-use Rattle.sbp_initiator.specs.Commands.{plan_of}
-use Rattle.sbp_journal.specs.Run.{Moment, said}
-use Rattle.sbp_journal.specs.declared.event.Cmd.{Cmd}
+use Rattle.sbp_world.proofs.Words.Std.{arith, ◌≡◌, refl, sym, ◌∙◌, ap, ℕ, ◌<◌, nat_eq, Bool, true, false, List, ◌∷◌, length, Option, Some, nat_tests, get_or-set_other, get_or-set_same}
+use Rattle.sbp_world.proofs.Words.Wire.{Moment, said, Cmd, NoteBuffer}
+use Rattle.sbp_world.proofs.Words.Initiator.{no_answer, AnswerPlan, plan_of}
+use Rattle.sbp_world.proofs.Words.Laws.{Orb, cmd_of, command_at, lowest_vacant, orb, prepared_in, slots, event_of}
+use Rattle.std.proofs.Common.{slice_index_or, slice_set}
+use Rattle.std.proofs.lemmas.List.{length-set}
 use Rattle.sbp_journal.specs.declared.note.Note.TheVariants as notes
-use Rattle.sbp_journal.specs.declared.note.NoteBuffer.{NoteBuffer}
-use Rattle.sbp_laws.specs.Lists.{Orb, cmd_of, command_at, lowest_vacant, orb, prepared_in, slots}
-use Rattle.sbp_laws.specs.Turns.{event_of}
 use Rattle.sbp_world.proofs.Hosts.ByteTerms.{ByteTerms, byte_terms, command_now, command_there, prepared_now}
 
 -- the names of the ORBs of the slots, and their commands

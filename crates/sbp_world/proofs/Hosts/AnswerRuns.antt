@@ -1,36 +1,14 @@
 -- In every run the answer of each good status that an initiator took is what its buffer held.
-use Rattle.std.proofs.lemmas.Bool.Decides.{nat_tests}
-use Rattle.std.proofs.Common.{arith, ◌≡◌, refl, sym, ◌∙◌, ap, subst, ℕ, zero, suc, ◌==◌, Bool, true, false, List, [], ◌∷◌, length, replicate, slice_set, Some, None, Ok}
-use Rattle.sbp_initiator.specs.Histories.Ends.{own}
-use Rattle.sbp_initiator.specs.Histories.Laws.{AreCalls, Call, after as laws_after}
-use Rattle.orb_list.specs.Lists.{no_answer}
-use Rattle.orb_list.specs.Table.{may_prepare}
-use Rattle.orb_list.specs.declared.answer.AnswerPlan.{AnswerPlan}
-use Rattle.sbp_bus.specs.Packets.{judged_note}
-use Rattle.sbp_initiator.specs.Acting.{act_step}
-use Rattle.sbp_initiator.specs.Commands.{plan_of}
-use Rattle.sbp_initiator.specs.Effects.{Turn}
-use Rattle.sbp_initiator.specs.Initiators.{new_state}
-use Rattle.sbp_initiator.specs.Receiving.{expire_step, receive_step}
-use Rattle.sbp_initiator.specs.Seeing.{see_step}
-use Rattle.sbp_initiator.specs.declared.state.InitiatorState.{InitiatorState}
-use Rattle.sbp_journal.specs.Buffers.{buffer_of}
-use Rattle.sbp_journal.specs.Outgoings.{empty_outbox}
-use Rattle.sbp_journal.specs.Run.{Moment, asked, said}
-use Rattle.sbp_journal.specs.declared.cause.Judged.{Judged}
+use Rattle.sbp_world.proofs.Words.Std.{nat_tests, arith, ◌≡◌, refl, sym, ◌∙◌, ap, subst, ℕ, zero, suc, ◌==◌, Bool, true, false, List, [], ◌∷◌, length, replicate, Some, None, Ok}
+use Rattle.sbp_world.proofs.Words.Wire.{judged_note, buffer_of, empty_outbox, Moment, asked, said, Judged, Action, Cmd, Note}
+use Rattle.sbp_world.proofs.Words.Initiator.{own, AreCalls, Call, laws_after, no_answer, may_prepare, AnswerPlan, act_step, plan_of, Turn, new_state, expire_step, receive_step, see_step, InitiatorState}
+use Rattle.sbp_world.proofs.Words.Laws.{action_notes, append_notes, new_list, new_number, cmd_of, event_of}
+use Rattle.sbp_world.proofs.Words.World.{TakenLaw, behind, AreRows}
+use Rattle.std.proofs.Common.{slice_set}
 use Rattle.sbp_journal.specs.declared.cause.Judged.TheVariants as judgements
-use Rattle.sbp_journal.specs.declared.event.Action.{Action}
 use Rattle.sbp_journal.specs.declared.event.Action.TheVariants as actions
-use Rattle.sbp_journal.specs.declared.event.Cmd.{Cmd}
 use Rattle.sbp_journal.specs.declared.event.Event.TheVariants as events
-use Rattle.sbp_journal.specs.declared.note.Note.{Note}
 use Rattle.sbp_journal.specs.declared.note.Note.TheVariants as notes
-use Rattle.sbp_laws.specs.Actions.{action_notes, append_notes, new_list, new_number}
-use Rattle.sbp_laws.specs.Lists.{cmd_of}
-use Rattle.sbp_laws.specs.Turns.{event_of}
-use Rattle.sbp_world.specs.Hosts.Answers.{TakenLaw}
-use Rattle.sbp_world.specs.Hosts.Calls.{behind}
-use Rattle.sbp_world.specs.Hosts.Fits.{AreRows}
 use Rattle.sbp_world.proofs.Hosts.Acts.{Goes}
 use Rattle.sbp_world.proofs.Hosts.AnswerPlans.{PlansHold, names, names_of, plans_appended}
 use Rattle.sbp_world.proofs.Hosts.AnswerTakes.{taken_answer}

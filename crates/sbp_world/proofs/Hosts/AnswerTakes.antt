@@ -1,38 +1,17 @@
 -- In every run the answer of each good status that an initiator took is what its buffer held.
-use Rattle.std.proofs.Common.{◌≡◌, refl, sym, ◌∙◌, ap, subst, ℕ, ◌<◌, Bool, cond, List, [], ◌∷◌, map, slice_index_or, Option, Some, None, Result, Ok, Err}
-use Rattle.async_packet.specs.Packet.{Packet}
-use Rattle.bus_memory.specs.Memory.{Memory, slot_at}
-use Rattle.bus_memory.specs.Windows.{slot_of}
+use Rattle.sbp_world.proofs.Words.Std.{◌≡◌, refl, sym, ◌∙◌, ap, subst, ℕ, ◌<◌, Bool, cond, List, [], ◌∷◌, map, Option, Some, None, Result, Ok, Err}
+use Rattle.sbp_world.proofs.Words.Wire.{Packet, judging_step, of_request, judged_note, empty_outbox, Moment, said, Cmd}
+use Rattle.sbp_world.proofs.Words.Initiator.{Memory, slot_at, slot_of, AreCalls, Call, laws_after, StatusBlock, ListState, answer_at, answer_by, no_answer, plan_at, stepped, take_lists, TakeStatus, SlotTable, slot_in, waiting, TicketParts, ListFault, plan_of, answer_of, receive_step, InitiatorState, buffer_addresses}
+use Rattle.sbp_world.proofs.Words.Laws.{prepared_in, laid_out, appends}
+use Rattle.sbp_world.proofs.Words.World.{byte_brought, byte_from, byte_held, LastFits, terms_at, StandsIn, name, name_in}
+use Rattle.std.proofs.Common.{slice_index_or}
 use Rattle.bus_memory.specs.declared.window.Window.TheVariants as windows
 use Rattle.bus_memory.proofs.Found.{slot_of_law}
-use Rattle.sbp_initiator.specs.Histories.Laws.{AreCalls, Call, after as laws_after}
-use Rattle.label_table.specs.Layer.{judging_step, of_request}
-use Rattle.orb_layout.specs.declared.status.StatusBlock.{StatusBlock}
 use Rattle.orb_layout.specs.declared.status.StatusKind.TheVariants as kinds
-use Rattle.orb_list.specs.Lists.{ListState, answer_at, answer_by, no_answer, plan_at, stepped, take_lists}
-use Rattle.orb_list.specs.Runs.{TakeStatus}
 use Rattle.orb_list.specs.Table as table
-use Rattle.orb_list.specs.Table.{SlotTable, slot_in, waiting}
-use Rattle.orb_list.specs.Tickets.{TicketParts}
-use Rattle.orb_list.specs.declared.fault.ListFault.{ListFault}
 use Rattle.orb_list.proofs.Tied.{waits_last}
-use Rattle.sbp_bus.specs.Packets.{judged_note}
-use Rattle.sbp_initiator.specs.Commands.{plan_of}
-use Rattle.sbp_initiator.specs.Receiving.{answer_of, receive_step}
-use Rattle.sbp_initiator.specs.declared.state.InitiatorState.{InitiatorState}
-use Rattle.sbp_journal.specs.Outgoings.{empty_outbox}
-use Rattle.sbp_journal.specs.Run.{Moment, said}
-use Rattle.sbp_journal.specs.declared.event.Cmd.{Cmd}
-use Rattle.sbp_laws.specs.Lists.{prepared_in}
 use Rattle.sbp_laws.specs.Lists as lists
-use Rattle.sbp_laws.specs.CarriedBytes.{laid_out}
-use Rattle.sbp_laws.specs.Terms.{appends}
-use Rattle.page_table.specs.Buffer.{buffer_addresses}
 use Rattle.sbp_world.specs.Hosts.Answers.{IsAnswerOf}
-use Rattle.sbp_world.specs.Hosts.Bytes.{byte_brought, byte_from, byte_held}
-use Rattle.sbp_world.specs.Hosts.Fits.{LastFits, terms_at}
-use Rattle.sbp_world.specs.Hosts.Orbs.{StandsIn}
-use Rattle.sbp_world.specs.Hosts.Rows.{name, name_in}
 use Rattle.sbp_world.proofs.Hosts.AnswerBytes.{answer_is}
 use Rattle.sbp_world.proofs.Hosts.AnswerPlans.{PlansHold, names}
 use Rattle.sbp_world.proofs.Hosts.ByteCalls.{KeepsBytes, call_keeps}

@@ -1,19 +1,14 @@
 -- What is said of the good statuses that were taken stays as others are told.
-use Rattle.std.proofs.Common.{arith, ◌≡◌, refl, sym, ◌∙◌, ap, subst, ℕ, ◌==◌, not, nat_eq, Bool, true, false, cond, List, [], ◌∷◌, ◌++◌, map}
-use Rattle.std.proofs.lemmas.Bool.Decides.{nat_tests}
+use Rattle.sbp_world.proofs.Words.Std.{arith, ◌≡◌, refl, sym, ◌∙◌, ap, subst, ℕ, ◌==◌, not, nat_eq, Bool, true, false, cond, List, [], ◌∷◌, ◌++◌, map, nat_tests}
+use Rattle.sbp_world.proofs.Words.Wire.{Moment, said, Note, Side}
+use Rattle.sbp_world.proofs.Words.Initiator.{buffer_addresses, own}
+use Rattle.sbp_world.proofs.Words.Laws.{laid_out, slot_at}
+use Rattle.sbp_world.proofs.Words.World.{byte_held, behind}
 use Rattle.orb_layout.specs.declared.status.StatusKind.TheVariants as kinds
-use Rattle.page_table.specs.Buffer.{buffer_addresses}
-use Rattle.sbp_journal.specs.Run.{Moment, said}
-use Rattle.sbp_journal.specs.declared.note.Note.{Note}
 use Rattle.sbp_journal.specs.declared.note.Note.TheVariants as notes
-use Rattle.sbp_journal.specs.declared.side.Side.{Side}
 use Rattle.sbp_journal.specs.declared.side.Side.TheVariants as sides
-use Rattle.sbp_laws.specs.CarriedBytes.{laid_out}
-use Rattle.sbp_laws.specs.Lists.{slot_at}
-use Rattle.sbp_initiator.specs.Histories.Ends.{own}
 use Rattle.sbp_world.specs.Hosts.Answers.{IsAnswerOf}
-use Rattle.sbp_world.specs.Hosts.Bytes.{byte_held}
-use Rattle.sbp_world.specs.Hosts.Calls.{behind, by_side}
+use Rattle.sbp_world.specs.Hosts.Calls.{by_side}
 use Rattle.sbp_world.proofs.Hosts.ByteRuns.{kept_side}
 use Rattle.sbp_world.proofs.Hosts.ByteTerms.{ByteTerms, byte_terms}
 use Rattle.sbp_world.proofs.Hosts.Carries.{is_apart}

@@ -1,38 +1,11 @@
 -- What an initiator answers to a request that it gets.
-use Rattle.std.proofs.Common.{arith, ◌≡◌, refl, sym, ap, subst, ◌∙◌, ℕ, suc, ◌+◌, ◌*◌, ◌-◌, ◌^◌, ◌%◌, ◌<◌, ◌≤◌, ◌==◌, ◌&&◌, ◌||◌, Bool, true, false, cond, List, [], ◌∷◌, ◌++◌, length, replicate, Option, Some, None, Result, Ok, Err}
-use Rattle.std.proofs.lemmas.List.{length-replicate}
-use Rattle.std.proofs.lemmas.Bool.Decides.{nat_tests}
-use Rattle.byteorder.specs.Endian.{big_bytes}
-use Rattle.sbp_base.specs.Quadlets.{quad}
-use Rattle.async_packet.specs.Canon.{canon}
-use Rattle.async_packet.specs.Packet.{Packet, header_in, write_quadlet, write_block, write_response, read_quadlet, read_block, read_quadlet_response, read_block_response, lock, lock_response}
-use Rattle.async_packet.specs.declared.fault.PacketFault.{PacketFault}
-use Rattle.async_packet.specs.Reading.{reading}
-use Rattle.bus_memory.specs.Access.{read_step, write_step}
-use Rattle.bus_memory.specs.Windows.{is_fifo, within}
-use Rattle.initiator_base.specs.Fifos.{fifo_at, is_login_fifo, is_open_login}
-use Rattle.initiator_base.specs.Places.{place_fifo}
-use Rattle.initiator_base.specs.declared.fifos.Fifo.{Fifo}
+use Rattle.sbp_world.proofs.Words.Std.{arith, ◌≡◌, refl, sym, ap, subst, ◌∙◌, ℕ, suc, ◌+◌, ◌*◌, ◌-◌, ◌^◌, ◌%◌, ◌<◌, ◌≤◌, ◌==◌, ◌&&◌, ◌||◌, Bool, true, false, cond, List, [], ◌∷◌, ◌++◌, length, replicate, Option, Some, None, Result, Ok, Err, length-replicate, nat_tests, big_bytes, quad}
+use Rattle.sbp_world.proofs.Words.Wire.{canon, Packet, header_in, write_quadlet, write_block, write_response, read_quadlet, read_block, read_quadlet_response, read_block_response, lock, lock_response, PacketFault, reading, header_to, response_to, LabelParts, judge_step, reply_kind, Row, by_again, by_generation, by_grammar, by_label, by_request, by_response, row_of, Finding, Layer, answering_step, closed_by, facts_in, facts_of, judged_by, judging_step, rcode_in, of_again, of_generation, of_grammar, of_label, of_request, of_response, responded, window_rcode, Access, access_of, OutboxState, empty_outbox, Moment, Outgoing}
+use Rattle.sbp_world.proofs.Words.Initiator.{read_step, write_step, is_fifo, within, fifo_at, is_login_fifo, is_open_login, place_fifo, Fifo, ListState, write_lists, Purpose, InitiatorState, Turn, called, read_as, respond_step, serve_step, written_as}
+use Rattle.sbp_world.proofs.Words.Laws.{rom_size, host_reply, is_fifo_write, window_facts}
+use Rattle.sbp_world.proofs.Words.World.{IsReadBy, IsReadOf, IsWriteOf}
 use Rattle.initiator_base.specs.declared.fifos.Fifo.TheVariants as fifos
-use Rattle.label_table.specs.Bodies.{header_to, response_to}
-use Rattle.async_packet.specs.Labels.{LabelParts}
-use Rattle.label_table.specs.Filter.{judge_step}
-use Rattle.label_table.specs.Requests.{reply_kind}
-use Rattle.label_table.specs.Judging.{Row, by_again, by_generation, by_grammar, by_label, by_request, by_response, row_of}
-use Rattle.label_table.specs.Layer.{Finding, Layer, answering_step, closed_by, facts_in, facts_of, judged_by, judging_step, rcode_in, of_again, of_generation, of_grammar, of_label, of_request, of_response, responded}
-use Rattle.orb_list.specs.Lists.{ListState, write_lists}
-use Rattle.sbp_journal.specs.Rows.{window_rcode}
-use Rattle.sbp_laws.specs.JudgementLaw.{rom_size}
-use Rattle.sbp_journal.specs.Addresses.{Access, access_of}
-use Rattle.sbp_journal.specs.Outgoings.{OutboxState, empty_outbox}
-use Rattle.sbp_journal.specs.Run.{Moment}
-use Rattle.sbp_journal.specs.declared.outbox.Outgoing.{Outgoing}
-use Rattle.sbp_initiator.specs.declared.purpose.Purpose.{Purpose}
-use Rattle.sbp_initiator.specs.declared.state.InitiatorState.{InitiatorState}
-use Rattle.sbp_initiator.specs.Effects.{Turn}
-use Rattle.sbp_initiator.specs.Receiving.{called, read_as, respond_step, serve_step, written_as}
-use Rattle.sbp_laws.specs.Served.{Reply, host_reply, is_fifo_write, window_facts}
-use Rattle.sbp_world.specs.Hosts.Reads.{IsReadBy, IsReadOf, IsWriteOf}
+use Rattle.sbp_laws.specs.Served.{Reply}
 
 -- ---- the packet of an answer
 

@@ -1,43 +1,16 @@
 -- What an initiator answers to a block that is written to one of its FIFOs; and to every request that it gets.
-use Rattle.std.proofs.Common.{◌≡◌, refl, sym, ap, subst, ◌∙◌, ℕ, suc, ◌≤◌, ◌^◌, ◌==◌, ◌&&◌, Bool, true, false, cond, List, replicate, [], ◌∷◌, ◌++◌, length, Option, Some, None, Result, Ok, Err}
-use Rattle.async_packet.specs.declared.packet.Header.{Header}
-use Rattle.bus_memory.specs.Access.{read_step}
-use Rattle.async_packet.specs.Packet.{Packet, lock, read_block, read_block_response, read_quadlet, read_quadlet_response, lock_response, write_block, write_quadlet, write_response}
-use Rattle.initiator_base.specs.Fifos.{is_dead_kind}
-use Rattle.initiator_base.specs.declared.fifos.Fifo.{Fifo}
+use Rattle.sbp_world.proofs.Words.Std.{◌≡◌, refl, sym, ap, subst, ◌∙◌, ℕ, suc, ◌≤◌, ◌^◌, ◌==◌, ◌&&◌, Bool, true, false, cond, List, replicate, [], ◌∷◌, ◌++◌, length, Option, Some, None, Result, Ok, Err}
+use Rattle.sbp_world.proofs.Words.Wire.{Header, Packet, lock, read_block, read_block_response, read_quadlet, read_quadlet_response, lock_response, write_block, write_quadlet, write_response, Layer, judging_step, of_request, Access, access_of, OutboxState, empty_outbox, window_rcode, Moment, Cause, Judged, Operation, Outgoing}
+use Rattle.sbp_world.proofs.Words.Target.{is_block}
+use Rattle.sbp_world.proofs.Words.Initiator.{read_step, is_dead_kind, Fifo, OrbFault, StatusBlock, StatusKind, ListState, drop_lists, take_lists, TicketParts, Event, bad, goes, is_out_seat, Purpose, Running, InitiatorState, Turn, drop_where, dropped_as, end_step, good_end, good_event, managed_step, moved, moves_session, response_of, then_step, told, with_dead, addressed, block_at, block_by, block_step, called, fifo_of, got_step, ignored_step, is_foreign, managed_for, present_for, quadlet_at, read_as, receive_step, received, request_step, status_step, taken_as, taken_by, ends_list, status_in}
+use Rattle.sbp_world.proofs.Words.Laws.{rom_size, is_fifo_write, window_facts}
+use Rattle.sbp_world.proofs.Words.World.{IsReadBy}
 use Rattle.initiator_base.specs.declared.fifos.Fifo.TheVariants as fifos
-use Rattle.label_table.specs.Layer.{Layer, judging_step, of_request}
-use Rattle.media_bay.specs.Unsolicited.{is_block}
-use Rattle.orb_layout.specs.declared.fault.OrbFault.{OrbFault}
-use Rattle.orb_layout.specs.declared.status.StatusBlock.{StatusBlock}
-use Rattle.orb_layout.specs.declared.status.StatusKind.{StatusKind}
 use Rattle.orb_layout.specs.declared.status.StatusKind.TheVariants as kinds
-use Rattle.orb_list.specs.Lists.{ListState, drop_lists, take_lists}
-use Rattle.orb_list.specs.Tickets.{TicketParts}
-use Rattle.sbp_session.specs.Moves.{Event, bad, goes}
-use Rattle.sbp_session.specs.Seats.{is_out_seat}
-use Rattle.sbp_journal.specs.Addresses.{Access, access_of}
-use Rattle.sbp_journal.specs.Outgoings.{OutboxState, empty_outbox}
-use Rattle.sbp_journal.specs.Rows.{window_rcode}
-use Rattle.sbp_journal.specs.Run.{Moment}
-use Rattle.sbp_journal.specs.declared.cause.Cause.{Cause}
 use Rattle.sbp_journal.specs.declared.cause.Cause.TheVariants as causes
-use Rattle.sbp_journal.specs.declared.cause.Judged.{Judged}
 use Rattle.sbp_journal.specs.declared.cause.Judged.TheVariants as judgements
 use Rattle.sbp_journal.specs.declared.note.Note.TheVariants as notes
-use Rattle.sbp_journal.specs.declared.operation.Operation.{Operation}
 use Rattle.sbp_journal.specs.declared.operation.OpWord.TheVariants as words
-use Rattle.sbp_journal.specs.declared.outbox.Outgoing.{Outgoing}
-use Rattle.sbp_initiator.specs.declared.purpose.Purpose.{Purpose}
-use Rattle.sbp_initiator.specs.declared.purpose.Running.{Running}
-use Rattle.sbp_initiator.specs.declared.state.InitiatorState.{InitiatorState}
-use Rattle.sbp_initiator.specs.Effects.{Turn, drop_where, dropped_as, end_step, good_end, good_event, managed_step, moved, moves_session, response_of, then_step, told, with_dead}
-use Rattle.sbp_initiator.specs.Receiving.{addressed, block_at, block_by, block_step, called, fifo_of, got_step, ignored_step, is_foreign, managed_for, present_for, quadlet_at, read_as, receive_step, received, request_step, status_step, taken_as, taken_by}
-use Rattle.sbp_initiator.specs.Refusals.{ends_list}
-use Rattle.sbp_initiator.specs.States.{status_in}
-use Rattle.sbp_laws.specs.JudgementLaw.{rom_size}
-use Rattle.sbp_laws.specs.Served.{is_fifo_write, window_facts}
-use Rattle.sbp_world.specs.Hosts.Reads.{IsReadBy}
 use Rattle.sbp_world.proofs.Hosts.Answering.{Answered, IsTold, IsRequestFound, answer, asks_block, asks_quadlet, locks, no_fifo, none_is, reply, reads_as, request_of, responds, serves, some_fifo, writes_block}
 
 -- ---- what is sent and what the layer is stays

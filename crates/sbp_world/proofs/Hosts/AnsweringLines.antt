@@ -1,30 +1,18 @@
 -- In every run an initiator answers each request that it gets as the run terms say.
-use Rattle.std.proofs.Common.{arith, ◌≡◌, refl, sym, subst, ℕ, ◌+◌, ◌^◌, ◌<◌, ◌≤◌, Bool, false, List, [], ◌∷◌, ◌++◌, length, map, Option, Some, None}
-use Rattle.bus_transactions.specs.May.{is_reset}
-use Rattle.rbc_disk.specs.Runs.{Told}
-use Rattle.sbp_journal.specs.Run.{Moment, asked, said}
-use Rattle.sbp_journal.specs.Wire.{terms}
-use Rattle.sbp_journal.specs.declared.event.Event.{Event}
+use Rattle.sbp_world.proofs.Words.Std.{arith, ◌≡◌, refl, sym, subst, ℕ, ◌+◌, ◌^◌, ◌<◌, ◌≤◌, Bool, false, List, [], ◌∷◌, ◌++◌, length, map, Option, Some, None}
+use Rattle.sbp_world.proofs.Words.Wire.{is_reset, Moment, asked, said, terms, Event}
+use Rattle.sbp_world.proofs.Words.Target.{Told}
+use Rattle.sbp_world.proofs.Words.Initiator.{InitiatorState, Call, laws_after}
+use Rattle.sbp_world.proofs.Words.World.{delivered, history_of, Run, after, beginning, MayAll, after_all, delivered_next, lowest, Scene, WorldState, begun, initiator_at, AnsweringLaw, GetsRequest, IsDelivering, took_quadlet, history, ResponsesLaw, IsRun}
 use Rattle.sbp_journal.specs.declared.event.Event.TheVariants as events
-use Rattle.sbp_initiator.specs.declared.state.InitiatorState.{InitiatorState}
-use Rattle.sbp_world.specs.Delivering.{delivered}
-use Rattle.sbp_world.specs.Histories.{history_of}
-use Rattle.sbp_world.specs.Runs.{Run, after, beginning}
-use Rattle.sbp_world.specs.Settling.{MayAll, after_all, delivered_next, lowest}
-use Rattle.sbp_world.specs.Worlds.{Scene, WorldState, begun, initiator_at}
 use Rattle.sbp_world.proofs.FitInitiator.Law.{fitting_law as own_fitting_law}
 use Rattle.sbp_world.proofs.FitTarget.Law.{fitting_law}
 use Rattle.sbp_world.proofs.Wire.Holding.{Sound}
 use Rattle.sbp_world.proofs.Wire.Runs.{SoundAfter, sound_after}
 use Rattle.sbp_world.proofs.Wire.Sound.{next_heard, opens}
 use Rattle.sbp_world.proofs.Wire.ToldBytes.{AreTold}
-use Rattle.sbp_initiator.specs.Histories.Laws.{Call, after as laws_after}
-use Rattle.sbp_world.specs.Hosts.Answering.{AnsweringLaw, GetsRequest, IsAnswered, IsDelivering}
-use Rattle.sbp_world.specs.Hosts.Bytes.{took_quadlet}
-use Rattle.sbp_world.specs.Hosts.Handing.{history}
+use Rattle.sbp_world.specs.Hosts.Answering.{IsAnswered}
 use Rattle.sbp_world.specs.Hosts.Refusing.{initiator_of}
-use Rattle.sbp_world.specs.Hosts.Responses.{ResponsesLaw}
-use Rattle.sbp_world.specs.Hosts.Runs.{IsRun}
 use Rattle.sbp_world.proofs.Hosts.AnsweringRuns.{is_answered_here}
 use Rattle.sbp_world.proofs.Hosts.AnsweringSends.{Gets}
 use Rattle.sbp_world.proofs.Hosts.ByteReads.{all_send}

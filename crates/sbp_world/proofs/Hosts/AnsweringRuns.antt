@@ -1,34 +1,16 @@
 -- What an initiator answers to a request that it gets in a delivery is what the run terms say.
-use Rattle.std.proofs.Common.{◌≡◌, refl, sym, ap, subst, ◌∙◌, ℕ, suc, ◌+◌, ◌^◌, ◌<◌, ◌≤◌, Bool, true, false, cond, List, [], ◌∷◌, length, Option, Some}
-use Rattle.std.specs.List.{AllByRecursion}
-use Rattle.async_packet.specs.Canon.{canon}
-use Rattle.async_packet.specs.Packet.{Packet}
-use Rattle.bus_transactions.specs.Wire.{as_sending}
+use Rattle.sbp_world.proofs.Words.Std.{◌≡◌, refl, sym, ap, subst, ◌∙◌, ℕ, suc, ◌+◌, ◌^◌, ◌<◌, ◌≤◌, Bool, true, false, cond, List, [], ◌∷◌, length, Option, Some, AllByRecursion}
+use Rattle.sbp_world.proofs.Words.Wire.{canon, Packet, as_sending, response_to, empty_outbox, Moment, said, Sending, part_of, Terms, terms, Judged, Note}
+use Rattle.sbp_world.proofs.Words.Target.{Disk, Told}
+use Rattle.sbp_world.proofs.Words.Initiator.{InitiatorState, Turn, receive_step}
+use Rattle.sbp_world.proofs.Words.Laws.{answer_packet, access_in, id_of, packet_in, spelled_by, Begins, answers_to, is_answered, reply_in, reply_packet, host_reply, is_sent, turn}
+use Rattle.sbp_world.proofs.Words.World.{delivered, Scene, initiator_at, GetsRequest, in_order, history, IsReadBy}
 use Rattle.bus_transactions.proofs.PacketParts.{part_read}
-use Rattle.label_table.specs.Bodies.{response_to}
-use Rattle.rbc_disk.specs.Disk.{Disk}
-use Rattle.rbc_disk.specs.Runs.{Told}
-use Rattle.sbp_journal.specs.Outgoings.{empty_outbox}
-use Rattle.sbp_journal.specs.Run.{Moment, said}
-use Rattle.sbp_journal.specs.Transactions.{Sending, part_of}
-use Rattle.sbp_journal.specs.Wire.{Terms, terms}
-use Rattle.sbp_journal.specs.declared.cause.Judged.{Judged}
-use Rattle.sbp_journal.specs.declared.note.Note.{Note}
 use Rattle.sbp_journal.specs.declared.note.Note.TheVariants as notes
-use Rattle.sbp_initiator.specs.declared.state.InitiatorState.{InitiatorState}
-use Rattle.sbp_initiator.specs.Effects.{Turn}
-use Rattle.sbp_initiator.specs.Receiving.{receive_step}
-use Rattle.sbp_laws.specs.JudgementLaw.{answer_packet}
-use Rattle.sbp_laws.specs.Packets.{access_in, id_of, packet_in, spelled_by}
-use Rattle.sbp_laws.specs.SentAnswers.{Begins, answers_to, is_answered, reply_in, reply_packet}
-use Rattle.sbp_laws.specs.Served.{Reply, host_reply}
-use Rattle.sbp_laws.specs.Turns.{is_sent, sends_of, turn}
-use Rattle.sbp_world.specs.Delivering.{delivered}
-use Rattle.sbp_world.specs.Worlds.{Scene, initiator_at}
+use Rattle.sbp_laws.specs.Served.{Reply}
+use Rattle.sbp_laws.specs.Turns.{sends_of}
 use Rattle.sbp_world.proofs.Wire.Holding.{Sound}
-use Rattle.sbp_world.specs.Hosts.Answering.{GetsRequest, IsAnswered, in_order}
-use Rattle.sbp_world.specs.Hosts.Handing.{history}
-use Rattle.sbp_world.specs.Hosts.Reads.{IsReadBy}
+use Rattle.sbp_world.specs.Hosts.Answering.{IsAnswered}
 use Rattle.sbp_world.proofs.Hosts.AnsweringTold.{asks_part, none_on, notes_on, sends_last}
 use Rattle.sbp_world.proofs.Hosts.AnsweringSends as sends
 use Rattle.sbp_world.proofs.Hosts.AnsweringSends.{Gets}

@@ -1,56 +1,23 @@
 -- What stands behind a request that an initiator gets, where it answers with one packet.
-use Rattle.std.proofs.Common.{arith, ◌≡◌, refl, sym, ap, subst, ◌∙◌, ℕ, suc, ◌+◌, ◌-◌, ◌^◌, ◌<◌, ◌≤◌, ◌==◌, ◌||◌, not, nat_lt, Bool, true, false, cond, List, [], ◌∷◌, ◌++◌, length, map, slice_set, Option, Some}
-use Rattle.std.proofs.lemmas.Bool.Decides.{nat_tests}
-use Rattle.std.specs.List.{AllByRecursion}
-use Rattle.async_packet.specs.Canon.{canon}
-use Rattle.async_packet.specs.Packet.{Packet, header_in}
-use Rattle.bus_transactions.specs.May.{is_plain}
-use Rattle.bus_transactions.specs.Fitting.{AreBytes}
-use Rattle.bus_transactions.specs.Reached.{IsOf}
-use Rattle.bus_transactions.specs.Steps.{ArePlainSides}
-use Rattle.bus_transactions.specs.Wire.{Node, as_sending}
+use Rattle.sbp_world.proofs.Words.Std.{arith, ◌≡◌, refl, sym, ap, subst, ◌∙◌, ℕ, suc, ◌+◌, ◌-◌, ◌^◌, ◌<◌, ◌≤◌, ◌==◌, ◌||◌, not, nat_lt, Bool, true, false, cond, List, [], ◌∷◌, ◌++◌, length, map, Option, Some, nat_tests, AllByRecursion}
+use Rattle.sbp_world.proofs.Words.Wire.{canon, Packet, header_in, is_plain, AreBytes, IsOf, ArePlainSides, Node, as_sending, response_to, judging_step, of_request, Sent, found_sent, is_flying, Stored, deliver_step, Access, access_of, OutboxState, empty_outbox, Moment, said, Sending, part_of, Terms, terms, Judged, Note, GenerationsState, node_of, topology_at, judged_note}
+use Rattle.sbp_world.proofs.Words.Target.{Told}
+use Rattle.sbp_world.proofs.Words.Initiator.{InitiatorState, Turn, receive_step}
+use Rattle.sbp_world.proofs.Words.Laws.{before_sent, payload_at, id_of, sender_in, is_answered}
+use Rattle.sbp_world.proofs.Words.World.{Arrival, arrived, at_none, at_target, delivered, delivered_by, initiator_received, initiators_received, listed, received_by, received_step, target_received, handed_out, sent_all, told_all, Scene, WorldState, initiator_at, with_note, Stands, behind, AreNotes, history, IsReadWith, payload_of}
+use Rattle.std.proofs.Common.{slice_set}
 use Rattle.bus_transactions.proofs.Follows.{last_is}
 use Rattle.bus_transactions.proofs.PacketParts.{part_read}
 use Rattle.bus_transactions.proofs.Reaches.{goes_on}
-use Rattle.label_table.specs.Bodies.{response_to}
-use Rattle.label_table.specs.Layer.{judging_step, of_request}
-use Rattle.packet_store.specs.declared.sent.Sent.{Sent}
-use Rattle.packet_store.specs.Kept.{found_sent, is_flying}
-use Rattle.packet_store.specs.Stored.{Stored, deliver_step}
-use Rattle.rbc_disk.specs.Runs.{Told}
-use Rattle.sbp_journal.specs.Addresses.{Access, access_of}
-use Rattle.sbp_journal.specs.Outgoings.{OutboxState, empty_outbox}
-use Rattle.sbp_journal.specs.Run.{Moment, said}
-use Rattle.sbp_journal.specs.Transactions.{Sending, part_of}
-use Rattle.sbp_journal.specs.Wire.{Terms, terms}
-use Rattle.sbp_journal.specs.declared.cause.Judged.{Judged}
 use Rattle.sbp_journal.specs.declared.cause.Judged.TheVariants as judgements
-use Rattle.sbp_journal.specs.declared.note.Note.{Note}
 use Rattle.sbp_journal.specs.declared.note.Note.TheVariants as notes
-use Rattle.sbp_initiator.specs.declared.state.InitiatorState.{InitiatorState}
-use Rattle.sbp_initiator.specs.Effects.{Turn}
-use Rattle.sbp_initiator.specs.Receiving.{receive_step}
-use Rattle.sbp_bus.specs.Generations.{GenerationsState, node_of, topology_at}
-use Rattle.sbp_bus.specs.Packets.{judged_note}
-use Rattle.sbp_laws.specs.CarriedBytes.{before_sent, payload_at}
-use Rattle.sbp_laws.specs.Packets.{id_of, sender_in}
-use Rattle.sbp_laws.specs.SentAnswers.{is_answered}
 use Rattle.sbp_laws.specs.Served.{Reply}
-use Rattle.sbp_world.specs.declared.parts.delivering.Arrival.{Arrival}
-use Rattle.sbp_world.specs.Delivering.{arrived, at_initiator, at_none, at_target, delivered, delivered_by, initiator_received, initiators_received, listed, received_by, received_step, target_received}
-use Rattle.sbp_world.specs.Handing.{handed_out}
-use Rattle.sbp_world.specs.Sending.{sent_all}
-use Rattle.sbp_world.specs.Telling.{told_all}
-use Rattle.sbp_world.specs.Worlds.{Scene, WorldState, initiator_at, with_note}
-use Rattle.sbp_world.specs.Wire.Wires.{Stands}
+use Rattle.sbp_world.specs.Delivering.{at_initiator}
 use Rattle.sbp_world.proofs.InitiatorForms as initiators
 use Rattle.sbp_world.proofs.FitInitiator.Law.{fitting_law as own_fitting_law}
 use Rattle.sbp_world.proofs.Wire.Bus.{holds}
 use Rattle.sbp_world.proofs.Wire.Found.{node_found}
 use Rattle.sbp_world.proofs.Wire.Holding.{Sound, own_has, target_small}
-use Rattle.sbp_world.specs.Hosts.Calls.{behind}
-use Rattle.sbp_world.specs.Hosts.Handing.{AreNotes, history}
-use Rattle.sbp_world.specs.Hosts.Responses.{IsReadWith, payload_of}
 use Rattle.sbp_world.proofs.Hosts.AnsweringTold.{asks_part, behind_on, none_on, notes_on, one_sent, plain_on}
 use Rattle.sbp_world.proofs.Hosts.Answering.{IsRequestFound, answer, request_of}
 use Rattle.sbp_world.proofs.Hosts.Hands.{all_own}

@@ -1,26 +1,11 @@
 -- What an initiator tells and sends in a delivery, in the order of the history.
-use Rattle.std.proofs.Common.{◌≡◌, refl, ap, ◌∙◌, ℕ, ◌+◌, true, false, cond, List, [], ◌∷◌, ◌++◌, map, Some}
-use Rattle.std.specs.List.{AllByRecursion}
-use Rattle.async_packet.specs.Canon.{canon}
-use Rattle.async_packet.specs.Packet.{Packet, header_in, lock, read_block, read_block_response, read_quadlet, read_quadlet_response, lock_response, write_block, write_quadlet, write_response}
-use Rattle.bus_transactions.specs.May.{is_plain}
-use Rattle.bus_transactions.specs.Steps.{ArePlainSides}
-use Rattle.label_table.specs.Bodies.{response_to}
-use Rattle.sbp_journal.specs.Addresses.{Access, access_of}
-use Rattle.sbp_journal.specs.Run.{Moment, said}
-use Rattle.sbp_journal.specs.Transactions.{part_in}
-use Rattle.sbp_journal.specs.declared.note.Note.{Note}
+use Rattle.sbp_world.proofs.Words.Std.{◌≡◌, refl, ap, ◌∙◌, ℕ, ◌+◌, true, false, cond, List, [], ◌∷◌, ◌++◌, map, Some, AllByRecursion}
+use Rattle.sbp_world.proofs.Words.Wire.{canon, Packet, header_in, lock, read_block, read_block_response, read_quadlet, read_quadlet_response, lock_response, write_block, write_quadlet, write_response, is_plain, ArePlainSides, response_to, Access, access_of, Moment, said, part_in, Note, Side, node_of, topology_at}
+use Rattle.sbp_world.proofs.Words.Laws.{is_answered, is_sent}
+use Rattle.sbp_world.proofs.Words.World.{posted, sent, sent_all, sent_to, WorldState, in_order, behind, history}
 use Rattle.sbp_journal.specs.declared.note.Note.TheVariants as notes
-use Rattle.sbp_journal.specs.declared.side.Side.{Side}
 use Rattle.sbp_journal.specs.declared.side.Side.TheVariants as sides
-use Rattle.sbp_bus.specs.Generations.{node_of, topology_at}
-use Rattle.sbp_laws.specs.SentAnswers.{is_answered}
-use Rattle.sbp_laws.specs.Turns.{is_sent, sends_of}
-use Rattle.sbp_world.specs.Sending.{posted, sent, sent_all, sent_to}
-use Rattle.sbp_world.specs.Worlds.{WorldState}
-use Rattle.sbp_world.specs.Hosts.Answering.{in_order}
-use Rattle.sbp_world.specs.Hosts.Calls.{behind}
-use Rattle.sbp_world.specs.Hosts.Handing.{history}
+use Rattle.sbp_laws.specs.Turns.{sends_of}
 use Rattle.sbp_world.proofs.Hosts.Answering.{answer, none_is}
 
 -- ---- what is told

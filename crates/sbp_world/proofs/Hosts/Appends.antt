@@ -1,26 +1,18 @@
 -- An ORB that is prepared is appended to its list.
-use Rattle.std.proofs.Common.{arith, ◌≡◌, refl, sym, ◌∙◌, ap, subst, inl, inr, ℕ, zero, suc, ◌+◌, ◌-◌, ◌<◌, nat_eq, Bool, true, false, cond, List, [], ◌∷◌, length, map, slice_set, Option, Some, None, Ok, Err}
-use Rattle.std.proofs.lemmas.Bool.Decides.{nat_tests}
-use Rattle.std.proofs.lemmas.List.{map-set}
-use Rattle.std.proofs.lemmas.List.Quantifiers.{position-Some}
+use Rattle.sbp_world.proofs.Words.Std.{arith, ◌≡◌, refl, sym, ◌∙◌, ap, subst, inl, inr, ℕ, zero, suc, ◌+◌, ◌-◌, ◌<◌, nat_eq, Bool, true, false, cond, List, [], ◌∷◌, length, map, Option, Some, None, Ok, Err, nat_tests, map-set, position-Some}
+use Rattle.sbp_world.proofs.Words.Wire.{Moment, said, NoteBuffer}
+use Rattle.sbp_world.proofs.Words.Initiator.{Link, PresentList, SlotState, Slot, TicketParts, SlotTable, slot_in, unused, is_free, is_done, is_mid_link, added, extended, lists_begun, free_slot, lowest, may_prepare, next_ticket}
+use Rattle.sbp_world.proofs.Words.Laws.{orb, Row, used, is_vacant, lowest_vacant}
+use Rattle.sbp_world.proofs.Words.World.{name, row, row_by, used_by, ListTerms, terms_at, over_at, StateFits, linked_by, LoweredFits, over_now, ListFits, IfList, Frees, Rows, AreRows}
+use Rattle.std.proofs.Common.{slice_set}
 use Rattle.orb_list.specs.declared.fault.ListFault.TheVariants as faults
-use Rattle.orb_list.specs.declared.list.Link.{Link}
 use Rattle.orb_list.specs.declared.list.Link.TheVariants as links
-use Rattle.orb_list.specs.declared.list.PresentList.{PresentList}
-use Rattle.orb_list.specs.declared.slot.SlotState.{SlotState}
 use Rattle.orb_list.specs.declared.slot.SlotState.TheVariants as states
-use Rattle.orb_list.specs.declared.slot.Slot.{Slot}
-use Rattle.orb_list.specs.Tickets.{TicketParts}
 use Rattle.orb_list.specs.Table as table
-use Rattle.orb_list.specs.Table.{SlotTable, slot_in, unused, is_free, is_done, is_mid_link, added, extended, lists_begun, free_slot, lowest, may_prepare, next_ticket}
 use Rattle.orb_list.proofs.Tied.{may_lowest}
-use Rattle.sbp_journal.specs.Run.{Moment, said}
 use Rattle.sbp_journal.specs.declared.note.Note.TheVariants as notes
-use Rattle.sbp_journal.specs.declared.note.NoteBuffer.{NoteBuffer}
 use Rattle.sbp_laws.specs.Lists as terms
-use Rattle.sbp_laws.specs.Lists.{orb, SlotState as Row, used, is_vacant, lowest_vacant}
-use Rattle.sbp_world.specs.Hosts.Rows.{name, row, row_by, used_by}
-use Rattle.sbp_world.specs.Hosts.Fits.{ListTerms, terms_at, over_at, IsOf, StateFits, linked_by, LoweredFits, over_now, ListFits, IfList, Frees, Rows, AreRows}
+use Rattle.sbp_world.specs.Hosts.Fits.{IsOf}
 use Rattle.sbp_world.proofs.Hosts.Sweeps.{frees, closes_still}
 use Rattle.sbp_world.proofs.Hosts.Prepares.{first_terms, next_terms, Grows, list_of, added_fits, first_swept, next_swept}
 use Rattle.sbp_world.proofs.Common.{itself}

@@ -1,16 +1,8 @@
 -- What the transaction layer sends when it is asked for something: a request, under a label.
-use Rattle.std.proofs.Common.{arith, ◌≡◌, refl, sym, ◌∙◌, ap, ℕ, ◌<◌, List, length, Option, Some, None}
-use Rattle.async_packet.specs.Canon.{IsValid}
-use Rattle.async_packet.specs.Labels.{LabelParts}
-use Rattle.label_table.specs.declared.judgement.Asked.{Asked}
-use Rattle.label_table.specs.Bodies.{Body, header_to, request_with}
-use Rattle.label_table.specs.Layer.{Layer, asked_at, asking_in, asking_step, peer_at, peer_place, unlabelled}
-use Rattle.label_table.specs.Peers.{begun_for}
-use Rattle.label_table.specs.Table.{begin_at, begin_step, lowest_from}
+use Rattle.sbp_world.proofs.Words.Std.{arith, ◌≡◌, refl, sym, ◌∙◌, ap, ℕ, ◌<◌, List, length, Option, Some, None}
+use Rattle.sbp_world.proofs.Words.Wire.{IsValid, LabelParts, Asked, Body, header_to, request_with, Layer, asked_at, asking_in, asking_step, peer_at, peer_place, unlabelled, begun_for, begin_at, begin_step, lowest_from, Kind, part_of, request, IsLayer}
+use Rattle.sbp_world.proofs.Words.Initiator.{Purpose}
 use Rattle.label_table.proofs.Calls.{after_kept}
-use Rattle.sbp_journal.specs.Transactions.{Kind, part_of, request}
-use Rattle.sbp_initiator.specs.declared.purpose.Purpose.{Purpose}
-use Rattle.bus_transactions.specs.Fitting.{IsLayer}
 use Rattle.bus_transactions.proofs.MoveAsk.{asked_bytes}
 use Rattle.sbp_world.proofs.Pointers.Spelled.{below}
 

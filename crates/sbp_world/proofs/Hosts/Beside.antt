@@ -1,38 +1,21 @@
 -- Notes that say nothing of an initiator's slots leave its terms, and so does a packet that is sent, but for that of an abort.
-use Rattle.std.proofs.Common.{arith, ◌≡◌, refl, sym, ◌∙◌, ap, subst, ℕ, zero, suc, ◌<◌, ◌==◌, ◌&&◌, not, max, nat_eq, Bool, true, false, cond, List, [], ◌∷◌, length, map, slice_set, Option, Some, None, Result, Ok, Err}
-use Rattle.std.proofs.lemmas.Bool.Decides.{nat_tests}
-use Rattle.std.proofs.lemmas.Bool.{not-true}
+use Rattle.sbp_world.proofs.Words.Std.{arith, ◌≡◌, refl, sym, ◌∙◌, ap, subst, ℕ, zero, suc, ◌<◌, ◌==◌, ◌&&◌, not, max, nat_eq, Bool, true, false, cond, List, [], ◌∷◌, length, map, Option, Some, None, Result, Ok, Err, nat_tests, not-true}
+use Rattle.sbp_world.proofs.Words.Wire.{Moment, asked, said, wire_terms, Event, Operation, OpWord, Note, NoteBuffer}
+use Rattle.sbp_world.proofs.Words.Initiator.{StatusKind, ListFault, PresentList, SlotState, Slot, TicketParts, SlotTable, slot_in, unused, new_table, waiting}
+use Rattle.sbp_world.proofs.Words.Laws.{lists, appends, event_of, access_at, Orb, orb, TakenStatus, Row, used, new_slots, pins, lowest_vacant, put_to_rest}
+use Rattle.sbp_world.proofs.Words.World.{name, name_in, present_in, ListTerms, terms_at, over_at, StateFits, IfLast, Fits, Frees, Rows, AreRows, is_beside, IsNoAbort}
+use Rattle.std.proofs.Common.{slice_set}
 use Rattle.bus_memory.proofs.Written.{replicated}
-use Rattle.orb_layout.specs.declared.status.StatusKind.{StatusKind}
-use Rattle.orb_list.specs.declared.fault.ListFault.{ListFault}
 use Rattle.orb_list.specs.declared.fault.ListFault.TheVariants as faults
-use Rattle.orb_list.specs.declared.list.PresentList.{PresentList}
-use Rattle.orb_list.specs.declared.slot.SlotState.{SlotState}
 use Rattle.orb_list.specs.declared.slot.SlotState.TheVariants as states
-use Rattle.orb_list.specs.declared.slot.Slot.{Slot}
-use Rattle.orb_list.specs.Tickets.{TicketParts}
 use Rattle.orb_list.specs.Table as table
-use Rattle.orb_list.specs.Table.{SlotTable, slot_in, unused, new_table, waiting}
 use Rattle.orb_list.proofs.Tied.{ticket_itself, waits_last}
-use Rattle.sbp_journal.specs.Run.{Moment, asked, said}
-use Rattle.sbp_journal.specs.Wire.{terms as wire_terms}
-use Rattle.sbp_journal.specs.declared.event.Event.{Event}
 use Rattle.sbp_journal.specs.declared.event.Event.TheVariants as events
 use Rattle.sbp_journal.specs.declared.event.Action.TheVariants as actions
-use Rattle.sbp_journal.specs.declared.operation.Operation.{Operation}
 use Rattle.sbp_journal.specs.declared.operation.Operation.TheVariants as operations
-use Rattle.sbp_journal.specs.declared.operation.OpWord.{OpWord}
-use Rattle.sbp_journal.specs.declared.note.Note.{Note}
 use Rattle.sbp_journal.specs.declared.note.Note.TheVariants as notes
-use Rattle.sbp_journal.specs.declared.note.NoteBuffer.{NoteBuffer}
-use Rattle.sbp_laws.specs.Terms.{lists, appends}
-use Rattle.sbp_laws.specs.Turns.{event_of}
-use Rattle.sbp_laws.specs.Packets.{access_at}
 use Rattle.sbp_laws.specs.Lists as terms
-use Rattle.sbp_laws.specs.Lists.{Orb, orb, TakenStatus, SlotState as Row, used, new_slots, pins, lowest_vacant, put_to_rest}
-use Rattle.sbp_world.specs.Hosts.Rows.{name, name_in, present_in}
-use Rattle.sbp_world.specs.Hosts.Fits.{ListTerms, terms_at, over_at, IsOf, StateFits, IfLast, Fits, Frees, Rows, AreRows}
-use Rattle.sbp_world.specs.Hosts.Steps.{is_beside, IsNoAbort}
+use Rattle.sbp_world.specs.Hosts.Fits.{IsOf}
 use Rattle.sbp_world.proofs.Hosts.Over.{last_at}
 use Rattle.sbp_world.proofs.Hosts.Sweeps.{frees, rests}
 use Rattle.sbp_world.proofs.Hosts.Links.{low_terms, link_terms}

@@ -1,45 +1,13 @@
 -- What a packet brings to an initiator of a world may be taken: it is the packet that is got, with the src that its block has.
-use Rattle.std.proofs.Common.{◌≡◌, refl, sym, ◌∙◌, ap, subst, ℕ, ◌-◌, nat_lt, Bool, true, false, cond, List, [], ◌∷◌, length, Option, Some, None, Result, Ok, Err}
-use Rattle.async_packet.specs.declared.fault.PacketFault.{PacketFault}
-use Rattle.async_packet.specs.Labels.{LabelParts}
-use Rattle.async_packet.specs.Packet.{Packet, header_in, lock, lock_response, read_block, read_block_response, read_quadlet, read_quadlet_response, write_block, write_quadlet, write_response}
-use Rattle.async_packet.specs.Reading.{reading}
-use Rattle.label_table.specs.Judging.{Row, by_again, by_generation, by_grammar, by_label, by_request, by_response, row_of}
-use Rattle.label_table.specs.Layer.{Finding, Layer, answering_step, closed_by, facts_of, judged_by, judging_step, of_again, of_generation, of_grammar, of_label, of_request, of_response, responded}
-use Rattle.label_table.specs.Requests.{reply_kind}
-use Rattle.orb_layout.specs.declared.fault.OrbFault.{OrbFault}
-use Rattle.orb_layout.specs.declared.status.StatusBlock.{StatusBlock}
-use Rattle.orb_layout.specs.declared.status.StatusKind.{StatusKind}
-use Rattle.orb_layout.specs.StatusBlocks.{in_row, kind_of, read_block as read_status_block, src_of, whole_length}
-use Rattle.packet_store.specs.declared.sent.Sent.{Sent}
-use Rattle.packet_store.specs.Kept.{found_sent}
-use Rattle.sbp_journal.specs.Outgoings.{OutboxState, empty_outbox}
-use Rattle.sbp_journal.specs.Rows.{Judging, ignored_as, serving, telling}
-use Rattle.sbp_journal.specs.Run.{Moment, said}
-use Rattle.sbp_journal.specs.Transactions.{Sending}
-use Rattle.sbp_journal.specs.Wire.{terms}
-use Rattle.sbp_journal.specs.declared.cause.Judged.{Judged}
+use Rattle.sbp_world.proofs.Words.Std.{◌≡◌, refl, sym, ◌∙◌, ap, subst, ℕ, ◌-◌, nat_lt, Bool, true, false, cond, List, [], ◌∷◌, length, Option, Some, None, Result, Ok, Err}
+use Rattle.sbp_world.proofs.Words.Wire.{PacketFault, LabelParts, Packet, header_in, lock, lock_response, read_block, read_block_response, read_quadlet, read_quadlet_response, write_block, write_quadlet, write_response, reading, Row, by_again, by_generation, by_grammar, by_label, by_request, by_response, row_of, Finding, Layer, answering_step, closed_by, facts_of, judged_by, judging_step, of_again, of_generation, of_grammar, of_label, of_request, of_response, responded, reply_kind, Sent, found_sent, OutboxState, empty_outbox, Judging, ignored_as, serving, telling, Moment, said, Sending, terms, Judged, Side, judged_note}
+use Rattle.sbp_world.proofs.Words.Initiator.{OrbFault, StatusBlock, StatusKind, in_row, kind_of, read_status_block, src_of, whole_length, Purpose, InitiatorState, Turn, receive_step, responded_as, names_place, status_in, LeftBy, judging_for, note_by, note_of}
+use Rattle.sbp_world.proofs.Words.Laws.{access_in, packet_in, spelled_by, src_in}
+use Rattle.sbp_world.proofs.Words.World.{WorldState, initiator_at, Stands, MayFind, MayPacket, history, MayDeliver, MayHear, MayTake}
 use Rattle.sbp_journal.specs.declared.cause.Judged.TheVariants as judgements
 use Rattle.sbp_journal.specs.declared.note.Note.TheVariants as notes
-use Rattle.sbp_journal.specs.declared.side.Side.{Side}
 use Rattle.sbp_journal.specs.declared.side.Side.TheVariants as sides
-use Rattle.sbp_initiator.specs.declared.purpose.Purpose.{Purpose}
-use Rattle.sbp_initiator.specs.declared.state.InitiatorState.{InitiatorState}
-use Rattle.sbp_initiator.specs.Effects.{Turn}
-use Rattle.sbp_initiator.specs.Receiving.{receive_step, responded_as}
-use Rattle.initiator_base.specs.Places.{names_place}
-use Rattle.sbp_initiator.specs.States.{status_in}
-use Rattle.sbp_initiator.specs.Histories.Judging.{LeftBy, judging_for, note_by, note_of}
 use Rattle.sbp_initiator.proofs.Histories.Judging.{judging_law}
-use Rattle.sbp_laws.specs.Packets.{access_in, packet_in, spelled_by}
-use Rattle.sbp_laws.specs.Lists.{src_in}
-use Rattle.sbp_bus.specs.Packets.{judged_note}
-use Rattle.sbp_world.specs.Worlds.{WorldState, initiator_at}
-use Rattle.sbp_world.specs.Wire.Wires.{Stands}
-use Rattle.sbp_world.specs.Hosts.Calls.{MayFind, MayPacket}
-use Rattle.sbp_world.specs.Hosts.Handing.{history}
-use Rattle.sbp_world.specs.Hosts.Lines.{MayDeliver, MayHear}
-use Rattle.sbp_world.specs.Hosts.Steps.{MayTake}
 use Rattle.sbp_world.proofs.Hosts.Knows.{was_sent}
 use Rattle.sbp_world.proofs.Sessions.BlockNotes.{gets_sent as sent_stays}
 

@@ -1,43 +1,16 @@
 -- What an action that is done leaves of an initiator's page tables and its buffers.
-use Rattle.std.proofs.Common.{arith, ◌≡◌, refl, sym, ◌∙◌, ap, subst, ℕ, zero, suc, ◌<◌, ◌==◌, not, is_some, Bool, true, false, List, [], ◌∷◌, ◌++◌, Option, Some, None, Ok}
-use Rattle.std.proofs.lemmas.List.Quantifiers.{position-Some}
-use Rattle.bus_memory.specs.Memory.{Memory}
+use Rattle.sbp_world.proofs.Words.Std.{arith, ◌≡◌, refl, sym, ◌∙◌, ap, subst, ℕ, zero, suc, ◌<◌, ◌==◌, not, is_some, Bool, true, false, List, [], ◌∷◌, ◌++◌, Option, Some, None, Ok, position-Some}
+use Rattle.sbp_world.proofs.Words.Wire.{buffer_of, empty_outbox, Moment, said, Action, Cmd, Note}
+use Rattle.sbp_world.proofs.Words.Initiator.{Memory, own, AreCalls, Call, IsCall, acts, after, action_calls, calls_if, dummy_calls, orb_calls, pin_calls, quad_calls, slot_calls, slot_calls_after, management_bytes, ManagementOrb, written, Asked, run, SlotTable, find_in, is_free, may_prepare, slot_in, unused, TicketParts, act_step, login_id, orb_by, asked_by, Turn, own_rom, place_of, InitiatorState}
+use Rattle.sbp_world.proofs.Words.Laws.{action_notes, append_notes, new_list, new_number, Orb, cmd_of, lowest_vacant, prepared_in, slot_at, slots, appends, event_of}
+use Rattle.sbp_world.proofs.Words.World.{behind, AreRows, IfLast, name, name_in}
 use Rattle.bus_memory.specs.declared.window.Window.TheVariants as windows
-use Rattle.sbp_initiator.specs.Histories.Ends.{own}
-use Rattle.sbp_initiator.specs.Histories.Laws.{AreCalls, Call, IsCall, acts, after}
-use Rattle.sbp_initiator.specs.Histories.Slots.{action_calls, calls_if, dummy_calls, orb_calls, pin_calls, quad_calls, slot_calls, slot_calls_after}
-use Rattle.orb_layout.specs.ManagementOrbs.{management_bytes}
-use Rattle.orb_layout.specs.declared.management.ManagementOrb.{ManagementOrb}
-use Rattle.orb_list.specs.Layout.{written}
-use Rattle.orb_list.specs.Requests.{Asked}
 use Rattle.orb_list.specs.Runs as slot_runs
-use Rattle.orb_list.specs.Runs.{run}
 use Rattle.orb_list.specs.Table as table
-use Rattle.orb_list.specs.Table.{SlotTable, find_in, is_free, may_prepare, slot_in, unused}
-use Rattle.orb_list.specs.Tickets.{TicketParts}
 use Rattle.orb_list.proofs.Tied.{may_lowest}
-use Rattle.sbp_initiator.specs.Acting.{act_step, login_id, orb_by}
-use Rattle.sbp_initiator.specs.Commands.{asked_by}
-use Rattle.sbp_initiator.specs.Effects.{Turn}
-use Rattle.sbp_initiator.specs.Initiators.{own_rom}
-use Rattle.sbp_initiator.specs.States.{place_of}
-use Rattle.sbp_initiator.specs.declared.state.InitiatorState.{InitiatorState}
-use Rattle.sbp_journal.specs.Buffers.{buffer_of}
-use Rattle.sbp_journal.specs.Outgoings.{empty_outbox}
-use Rattle.sbp_journal.specs.Run.{Moment, said}
-use Rattle.sbp_journal.specs.declared.event.Action.{Action}
 use Rattle.sbp_journal.specs.declared.event.Action.TheVariants as actions
-use Rattle.sbp_journal.specs.declared.event.Cmd.{Cmd}
 use Rattle.sbp_journal.specs.declared.event.Event.TheVariants as events
-use Rattle.sbp_journal.specs.declared.note.Note.{Note}
 use Rattle.sbp_journal.specs.declared.note.Note.TheVariants as notes
-use Rattle.sbp_laws.specs.Actions.{action_notes, append_notes, new_list, new_number}
-use Rattle.sbp_laws.specs.Lists.{Orb, cmd_of, lowest_vacant, prepared_in, slot_at, slots}
-use Rattle.sbp_laws.specs.Terms.{appends}
-use Rattle.sbp_laws.specs.Turns.{event_of}
-use Rattle.sbp_world.specs.Hosts.Calls.{behind}
-use Rattle.sbp_world.specs.Hosts.Fits.{AreRows, IfLast}
-use Rattle.sbp_world.specs.Hosts.Rows.{name, name_in}
 use Rattle.sbp_world.proofs.Hosts.Acts.{Goes}
 use Rattle.sbp_world.proofs.Hosts.Appends.{lowest_is}
 use Rattle.sbp_world.proofs.Hosts.ByteCalls.{AreCalm, KeepsBytes, calm_append}

@@ -1,13 +1,9 @@
 -- Where no quadlet was written into an initiator's memory, the bytes of its buffers are those of the laws of answers.
-use Rattle.std.proofs.Common.{◌≡◌, refl, ◌∙◌, ap, ℕ, ◌==◌, ◌&&◌, ◌||◌, Bool, true, false, cond, List, [], ◌∷◌, Option, Some, None}
-use Rattle.async_packet.specs.Packet.{Packet, lock, lock_response, read_block, read_block_response, read_quadlet, read_quadlet_response, write_block, write_quadlet, write_response}
-use Rattle.sbp_journal.specs.Run.{Moment, asked, said}
-use Rattle.sbp_journal.specs.Wire.{terms}
+use Rattle.sbp_world.proofs.Words.Std.{◌≡◌, refl, ◌∙◌, ap, ℕ, ◌==◌, ◌&&◌, ◌||◌, Bool, true, false, cond, List, [], ◌∷◌, Option, Some, None}
+use Rattle.sbp_world.proofs.Words.Wire.{Packet, lock, lock_response, read_block, read_block_response, read_quadlet, read_quadlet_response, write_block, write_quadlet, write_response, Moment, asked, said, terms}
+use Rattle.sbp_world.proofs.Words.Laws.{command_at, slot_at, access_in, packet_at, byte_in, byte_of, byte_written, or_byte}
+use Rattle.sbp_world.proofs.Words.World.{byte_brought, byte_held, is_got_by, took_quadlet, writes_quadlet}
 use Rattle.sbp_journal.specs.declared.note.Note.TheVariants as notes
-use Rattle.sbp_laws.specs.Lists.{command_at, slot_at}
-use Rattle.sbp_laws.specs.Packets.{access_in, packet_at}
-use Rattle.sbp_laws.specs.Served.{byte_in, byte_of, byte_written, or_byte}
-use Rattle.sbp_world.specs.Hosts.Bytes.{byte_brought, byte_held, is_got_by, took_quadlet, writes_quadlet}
 
 or_false : (a b : Bool) → a || b ≡ false → (a ≡ false) × (b ≡ false)
 or_false true b e = absurd (cc e)

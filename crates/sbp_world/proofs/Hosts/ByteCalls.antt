@@ -1,21 +1,11 @@
 -- The calls of an initiator's slots that leave the page tables and the buffers of its memory.
-use Rattle.std.proofs.Common.{◌≡◌, refl, ap, ◌∙◌, ℕ, zero, suc, List, [], ◌∷◌, ◌++◌, slice_index_or, slice_set, Option, Some, None, Result, Ok, Err}
-use Rattle.bus_memory.specs.Access.{set_step}
-use Rattle.bus_memory.specs.Laws.{IsInside, IsWhole}
-use Rattle.bus_memory.specs.Memory.{Memory, empty_slot, slot_at, with_slot}
-use Rattle.bus_memory.specs.Windows.{slot_of}
-use Rattle.bus_memory.specs.declared.slot.SlotMemory.{SlotMemory}
+use Rattle.sbp_world.proofs.Words.Std.{◌≡◌, refl, ap, ◌∙◌, ℕ, zero, suc, List, [], ◌∷◌, ◌++◌, Option, Some, None, Result, Ok, Err}
+use Rattle.sbp_world.proofs.Words.Initiator.{set_step, IsInside, IsWhole, Memory, empty_slot, slot_at, with_slot, slot_of, SlotMemory, StatusBlock, ListFault, Linking, Slot, AreProper, IsManaged, IsProper, Prepare, LinkLow, LinkHigh, MakeDummy, TakeStatus, DropList, FreeAll, Pin, Unpin, TryWrite, Fill, SetQuad, left_by, run, SlotTable, closed, high_for, low_for, slot_in, waiting, waits_high, waits_low, TicketParts}
+use Rattle.std.proofs.Common.{slice_index_or, slice_set}
 use Rattle.bus_memory.specs.declared.window.Window.TheVariants as windows
 use Rattle.bus_memory.proofs.Found.{own_law}
-use Rattle.orb_layout.specs.declared.status.StatusBlock.{StatusBlock}
-use Rattle.orb_list.specs.declared.fault.ListFault.{ListFault}
-use Rattle.orb_list.specs.declared.list.Linking.{Linking}
-use Rattle.orb_list.specs.declared.slot.Slot.{Slot}
-use Rattle.orb_list.specs.Kept.{AreProper, IsManaged, IsProper}
-use Rattle.orb_list.specs.Runs.{Call, Prepare, LinkLow, LinkHigh, MakeDummy, TakeStatus, DropList, FreeAll, Pin, Unpin, TryWrite, Fill, SetQuad, left_by, run}
+use Rattle.orb_list.specs.Runs.{Call}
 use Rattle.orb_list.specs.Table as table
-use Rattle.orb_list.specs.Table.{SlotTable, closed, high_for, low_for, slot_in, waiting, waits_high, waits_low}
-use Rattle.orb_list.specs.Tickets.{TicketParts}
 use Rattle.orb_list.proofs.Closed.{closed_keeps}
 use Rattle.orb_list.proofs.Steps.{held_law}
 

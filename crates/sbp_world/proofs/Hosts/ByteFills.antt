@@ -1,20 +1,12 @@
 -- What a request that is written into a slot leaves of the page tables and the buffers of a memory.
-use Rattle.std.proofs.Common.{arith, ◌≡◌, refl, sym, ap, ◌∙◌, ℕ, ◌+◌, ◌-◌, ◌*◌, ◌<◌, ◌≤◌, ◌&&◌, nat_le, nat_lt, Bool, true, false, cond, sum, List, [], ◌∷◌, ◌++◌, length, take, drop, slice_index_or, length-take, Option, Some, None}
-use Rattle.std.proofs.lemmas.Bool.Decides.{nat_tests}
-use Rattle.std.proofs.lemmas.List.{get_or-take}
-use Rattle.bus_memory.specs.Laws.{IsWhole, is_same}
-use Rattle.bus_memory.specs.Memory.{Memory, bytes_in, patch, slot_at, with_armed, with_bytes}
-use Rattle.bus_memory.specs.Windows.{IsWindow, start}
-use Rattle.bus_memory.specs.declared.window.Window.{Window}
+use Rattle.sbp_world.proofs.Words.Std.{arith, ◌≡◌, refl, sym, ap, ◌∙◌, ℕ, ◌+◌, ◌-◌, ◌*◌, ◌<◌, ◌≤◌, ◌&&◌, nat_le, nat_lt, Bool, true, false, cond, sum, List, [], ◌∷◌, ◌++◌, length, take, drop, Option, Some, None, nat_tests, get_or-take}
+use Rattle.sbp_world.proofs.Words.Wire.{Cmd}
+use Rattle.sbp_world.proofs.Words.Initiator.{IsWhole, is_same, Memory, bytes_in, patch, slot_at, with_armed, with_bytes, IsWindow, start, Window, command_bytes, behind, data_in_segments, data_written, orb_of, table_bytes, written, Asked, IsRequest, asked_by}
+use Rattle.sbp_world.proofs.Words.Laws.{byte_of, data_at, in_front, or_byte}
+use Rattle.std.proofs.Common.{slice_index_or, length-take}
 use Rattle.bus_memory.specs.declared.window.Window.TheVariants as windows
 use Rattle.bus_memory.proofs.Written.{armed_keeps, patch_byte, whole_armed, whole_set, window_set}
-use Rattle.orb_layout.specs.CommandOrbs.{command_bytes}
-use Rattle.orb_list.specs.Layout.{behind, data_in_segments, data_written, orb_of, table_bytes, written}
-use Rattle.orb_list.specs.Requests.{Asked, IsRequest}
 use Rattle.orb_list.proofs.Spelled.{Parts, parts}
-use Rattle.sbp_initiator.specs.Commands.{asked_by}
-use Rattle.sbp_journal.specs.declared.event.Cmd.{Cmd}
-use Rattle.sbp_laws.specs.Served.{byte_of, data_at, in_front, or_byte}
 use Rattle.sbp_world.proofs.Hosts.ByteLists.{data_before, data_in, data_laid, data_of, is_in}
 use Rattle.sbp_world.proofs.Common.{same_number}
 use Rattle.sbp_world.proofs.Hosts.BytePlaces.{total}

@@ -1,47 +1,16 @@
 -- What an initiator that hears a packet leaves of its page tables and its buffers.
-use Rattle.std.proofs.Common.{arith, ◌≡◌, refl, sym, ◌∙◌, ap, subst, append_assoc, ℕ, suc, ◌+◌, ◌-◌, ◌*◌, ◌<◌, ◌≤◌, ◌==◌, ◌&&◌, ◌||◌, Bool, true, false, cond, List, [], ◌∷◌, ◌++◌, length, slice_index_or, Option, Some, None, Result, Ok, Err}
-use Rattle.std.proofs.lemmas.Bool.Decides.{nat_tests}
-use Rattle.async_packet.specs.declared.packet.Header.{Header}
-use Rattle.async_packet.specs.Packet.{Packet, lock, lock_response, read_block, read_block_response, read_quadlet, read_quadlet_response, write_block, write_quadlet, write_response}
-use Rattle.async_packet.specs.Reading.{reading}
-use Rattle.async_packet.specs.declared.fault.PacketFault.{PacketFault}
-use Rattle.bus_memory.specs.Access.{write_step}
-use Rattle.bus_memory.specs.Memory.{Memory, is_written, slot_at}
-use Rattle.bus_memory.specs.Windows.{start}
+use Rattle.sbp_world.proofs.Words.Std.{arith, ◌≡◌, refl, sym, ◌∙◌, ap, subst, append_assoc, ℕ, suc, ◌+◌, ◌-◌, ◌*◌, ◌<◌, ◌≤◌, ◌==◌, ◌&&◌, ◌||◌, Bool, true, false, cond, List, [], ◌∷◌, ◌++◌, length, Option, Some, None, Result, Ok, Err, nat_tests, big_bytes}
+use Rattle.sbp_world.proofs.Words.Wire.{Header, Packet, lock, lock_response, read_block, read_block_response, read_quadlet, read_quadlet_response, write_block, write_quadlet, write_response, reading, PacketFault, Finding, judging_step, of_again, of_generation, of_grammar, of_label, of_request, of_response, judged_note, Access, access_of, OutboxState, empty_outbox, Moment, said, terms, Judged, Cmd}
+use Rattle.sbp_world.proofs.Words.Initiator.{write_step, Memory, is_written, slot_at, start, fifo_at, is_login_fifo, is_open_login, place_fifo, Fifo, AreCalls, Call, after, done, receives, block_calls, block_writes, drop_calls, has_ended, quadlet_writes, request_calls, slot_calls, slot_calls_after, unpin_calls, write_calls, written_by, brought, finding_drops, ListState, write_lists, run, Turn, own_rom, address_error, addressed, block_at, fifo_of, ignored_step, is_foreign, quadlet_at, receive_step, received, request_step, written_as, Purpose, InitiatorState}
+use Rattle.sbp_world.proofs.Words.Laws.{Orb, command_at, prepared_in, access_in, packet_at, packet_in, receiver_in, spelled_by, direction_of, goes_in, is_complete_at, or_byte, is_serial}
+use Rattle.sbp_world.proofs.Words.World.{byte_brought, byte_from, byte_held, is_got_by, IsWriteOf}
+use Rattle.std.proofs.Common.{slice_index_or}
 use Rattle.bus_memory.specs.declared.window.Window.TheVariants as windows
-use Rattle.byteorder.specs.Endian.{big_bytes}
-use Rattle.initiator_base.specs.Fifos.{fifo_at, is_login_fifo, is_open_login}
-use Rattle.initiator_base.specs.Places.{place_fifo}
-use Rattle.initiator_base.specs.declared.fifos.Fifo.{Fifo}
 use Rattle.initiator_base.specs.declared.fifos.Fifo.TheVariants as fifos
-use Rattle.sbp_initiator.specs.Histories.Laws.{AreCalls, Call, after, done, receives}
-use Rattle.sbp_initiator.specs.Histories.Slots.{block_calls, block_writes, drop_calls, has_ended, quadlet_writes, request_calls, slot_calls, slot_calls_after, unpin_calls, write_calls, written_by}
-use Rattle.sbp_initiator.specs.Histories.Taking.{brought, finding_drops}
-use Rattle.label_table.specs.Layer.{Finding, judging_step, of_again, of_generation, of_grammar, of_label, of_request, of_response}
-use Rattle.orb_list.specs.Lists.{ListState, write_lists}
 use Rattle.orb_list.specs.Runs as slot_runs
-use Rattle.orb_list.specs.Runs.{run}
-use Rattle.sbp_bus.specs.Packets.{judged_note}
-use Rattle.sbp_initiator.specs.Effects.{Turn}
-use Rattle.sbp_initiator.specs.Initiators.{own_rom}
-use Rattle.sbp_initiator.specs.Receiving.{address_error, addressed, block_at, fifo_of, ignored_step, is_foreign, quadlet_at, receive_step, received, request_step, written_as}
-use Rattle.sbp_initiator.specs.declared.purpose.Purpose.{Purpose}
-use Rattle.sbp_initiator.specs.declared.state.InitiatorState.{InitiatorState}
-use Rattle.sbp_journal.specs.Addresses.{Access, access_of}
-use Rattle.sbp_journal.specs.Outgoings.{OutboxState, empty_outbox}
-use Rattle.sbp_journal.specs.Run.{Moment, said}
-use Rattle.sbp_journal.specs.Wire.{terms}
 use Rattle.sbp_journal.specs.declared.cause.Cause.TheVariants as causes
-use Rattle.sbp_journal.specs.declared.cause.Judged.{Judged}
 use Rattle.sbp_journal.specs.declared.cause.Judged.TheVariants as judgements
-use Rattle.sbp_journal.specs.declared.event.Cmd.{Cmd}
 use Rattle.sbp_journal.specs.declared.note.Note.TheVariants as notes
-use Rattle.sbp_laws.specs.Lists.{Orb, command_at, prepared_in}
-use Rattle.sbp_laws.specs.Packets.{access_in, packet_at, packet_in, receiver_in, spelled_by}
-use Rattle.sbp_laws.specs.Served.{direction_of, goes_in, is_complete_at, or_byte}
-use Rattle.sbp_laws.specs.Targets.{is_serial}
-use Rattle.sbp_world.specs.Hosts.Bytes.{byte_brought, byte_from, byte_held, is_got_by}
-use Rattle.sbp_world.specs.Hosts.Reads.{IsWriteOf}
 use Rattle.sbp_world.proofs.Hosts.Answering.{IsRequestFound, request_of}
 use Rattle.sbp_world.proofs.Hosts.ByteCalls.{AreCalm, KeepsBytes, calm_append}
 use Rattle.sbp_world.proofs.Hosts.ByteTerms.{SlotBytes, byte_terms, bytes_kept, got_nothing, kept_bytes}

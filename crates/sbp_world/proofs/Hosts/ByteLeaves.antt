@@ -1,23 +1,11 @@
 -- What a call of an initiator leaves of its page tables and its buffers, by the calls of its slots.
-use Rattle.std.proofs.Common.{◌≡◌, sym, ◌∙◌, ap, subst, append_assoc, ℕ, nat_lt, Bool, true, false, cond, List, [], ◌∷◌, ◌++◌}
-use Rattle.async_packet.specs.Labels.{LabelParts}
-use Rattle.bus_memory.specs.Laws.{IsWhole}
-use Rattle.bus_memory.specs.Memory.{Memory}
-use Rattle.sbp_initiator.specs.Histories.Laws.{AreCalls, Call, IsCall, after, done, lets_expire, sees}
-use Rattle.sbp_initiator.specs.Histories.Slots.{AreSlotsOf, block_calls, drop_calls, has_ended, slot_calls, slot_calls_after, status_calls, unpin_calls}
-use Rattle.sbp_initiator.specs.Histories.Taking.{Brought, nothing, status, unsolicited}
+use Rattle.sbp_world.proofs.Words.Std.{◌≡◌, sym, ◌∙◌, ap, subst, append_assoc, ℕ, nat_lt, Bool, true, false, cond, List, [], ◌∷◌, ◌++◌}
+use Rattle.sbp_world.proofs.Words.Wire.{LabelParts, empty_outbox}
+use Rattle.sbp_world.proofs.Words.Initiator.{IsWhole, Memory, AreCalls, Call, IsCall, after, done, lets_expire, sees, AreSlotsOf, block_calls, drop_calls, has_ended, slot_calls, slot_calls_after, status_calls, unpin_calls, Brought, nothing, status, unsolicited, StatusBlock, StatusKind, AreProper, run, Turn, own_rom, InitiatorState}
 use Rattle.sbp_initiator.proofs.Histories.Slotted.{slot_law}
-use Rattle.orb_layout.specs.declared.status.StatusBlock.{StatusBlock}
-use Rattle.orb_layout.specs.declared.status.StatusKind.{StatusKind}
 use Rattle.orb_layout.specs.declared.status.StatusKind.TheVariants as kinds
-use Rattle.orb_list.specs.Kept.{AreProper}
 use Rattle.orb_list.specs.Runs as slot_runs
-use Rattle.orb_list.specs.Runs.{run}
 use Rattle.orb_list.proofs.Steps.{held_law}
-use Rattle.sbp_initiator.specs.Effects.{Turn}
-use Rattle.sbp_initiator.specs.Initiators.{own_rom}
-use Rattle.sbp_initiator.specs.declared.state.InitiatorState.{InitiatorState}
-use Rattle.sbp_journal.specs.Outgoings.{empty_outbox}
 use Rattle.sbp_world.proofs.Hosts.Alone.{call_same}
 use Rattle.sbp_world.proofs.Hosts.ByteCalls.{AreCalm, KeepsBytes, calm_keeps}
 

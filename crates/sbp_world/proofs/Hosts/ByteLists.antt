@@ -1,15 +1,9 @@
 -- The bytes of data that are laid out in the segments of a buffer, and the places of their addresses.
-use Rattle.std.proofs.Common.{arith, ◌≡◌, refl, sym, ap, ◌∙◌, ℕ, zero, suc, ◌+◌, ◌-◌, ◌<◌, ◌≤◌, ◌==◌, ◌&&◌, nat_le, nat_lt, Bool, true, false, cond, List, [], ◌∷◌, ◌++◌, length, drop, position, slice_index_or, Option, Some, None}
-use Rattle.std.proofs.lemmas.Bool.Decides.{nat_tests}
-use Rattle.std.proofs.lemmas.Iterator.Adapters.{position_from-zero}
-use Rattle.std.proofs.lemmas.List.{get_or-drop, length-drop}
-use Rattle.std.specs.List.{position_from}
-use Rattle.orb_list.specs.Layout.{behind}
-use Rattle.page_table.specs.Buffer.{addresses, buffer_addresses, single}
-use Rattle.sbp_journal.specs.declared.event.Cmd.{Cmd}
-use Rattle.sbp_laws.specs.CarriedBytes.{laid_out, placed}
-use Rattle.sbp_laws.specs.Served.{data_at}
-use Rattle.bus_memory.specs.Windows.{start}
+use Rattle.sbp_world.proofs.Words.Std.{arith, ◌≡◌, refl, sym, ap, ◌∙◌, ℕ, zero, suc, ◌+◌, ◌-◌, ◌<◌, ◌≤◌, ◌==◌, ◌&&◌, nat_le, nat_lt, Bool, true, false, cond, List, [], ◌∷◌, ◌++◌, length, drop, Option, Some, None, nat_tests, position_from-zero, get_or-drop, length-drop, position_from}
+use Rattle.sbp_world.proofs.Words.Wire.{Cmd}
+use Rattle.sbp_world.proofs.Words.Initiator.{behind, addresses, buffer_addresses, single, start}
+use Rattle.sbp_world.proofs.Words.Laws.{laid_out, placed, data_at}
+use Rattle.std.proofs.Common.{position, slice_index_or}
 use Rattle.bus_memory.specs.declared.window.Window.TheVariants as windows
 
 -- a place lies in so many bytes from another one on

@@ -1,18 +1,10 @@
 -- The place of each byte of the data in a buffer that is laid out for a command.
-use Rattle.std.proofs.Common.{arith, ◌≡◌, refl, sym, ◌∙◌, ap, ℕ, zero, suc, ◌+◌, ◌-◌, ◌*◌, ◌<◌, ◌≤◌, ◌==◌, nat_lt, Bool, true, false, cond, sum, List, [], ◌∷◌, ◌++◌, length, drop, slice_index_or, length-append, Some}
-use Rattle.std.proofs.Math.ListN.{get_or-append}
-use Rattle.std.proofs.Math.Seq.{get_or-append_right}
-use Rattle.std.proofs.lemmas.Bool.Decides.{nat_tests}
-use Rattle.std.proofs.lemmas.List.{append-nil}
-use Rattle.std.proofs.lemmas.List.Sums.{sum_by-cons}
-use Rattle.bus_memory.specs.Windows.{start}
+use Rattle.sbp_world.proofs.Words.Std.{arith, ◌≡◌, refl, sym, ◌∙◌, ap, ℕ, zero, suc, ◌+◌, ◌-◌, ◌*◌, ◌<◌, ◌≤◌, ◌==◌, nat_lt, Bool, true, false, cond, sum, List, [], ◌∷◌, ◌++◌, length, drop, length-append, Some, get_or-append, get_or-append_right, nat_tests, append-nil, sum_by-cons}
+use Rattle.sbp_world.proofs.Words.Wire.{Cmd}
+use Rattle.sbp_world.proofs.Words.Initiator.{start, behind, addresses, buffer_addresses, bytes_of, single, Segment}
+use Rattle.sbp_world.proofs.Words.Laws.{laid_out, placed, data_at}
+use Rattle.std.proofs.Common.{slice_index_or}
 use Rattle.bus_memory.specs.declared.window.Window.TheVariants as windows
-use Rattle.orb_list.specs.Layout.{behind}
-use Rattle.page_table.specs.Buffer.{addresses, buffer_addresses, bytes_of, single}
-use Rattle.page_table.specs.declared.segment.Segment.{Segment}
-use Rattle.sbp_journal.specs.declared.event.Cmd.{Cmd}
-use Rattle.sbp_laws.specs.CarriedBytes.{laid_out, placed}
-use Rattle.sbp_laws.specs.Served.{data_at}
 use Rattle.sbp_world.proofs.Hosts.ByteLists.{data_in, data_of, data_shift, is_in}
 
 -- the place of a byte in segments from another place on

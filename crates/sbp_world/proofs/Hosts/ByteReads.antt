@@ -1,30 +1,14 @@
 -- In every run the target reads the data of an ORB as they were appended.
-use Rattle.std.proofs.Common.{arith, ◌≡◌, refl, sym, ◌∙◌, ap, subst, ℕ, suc, ◌+◌, ◌-◌, ◌<◌, ◌≤◌, ◌==◌, ◌&&◌, ◌||◌, nat_lt, min, Bool, true, false, cond, List, [], length, take, drop, slice_index_or, length-drop, length-take, Option, Some, None, IfSome, Err}
-use Rattle.std.proofs.lemmas.Bool.Decides.{nat_tests}
-use Rattle.std.proofs.lemmas.List.{ext_get_or, get_or-drop, get_or-take}
-use Rattle.bus_memory.specs.Access.{judged, judged_at, read_at, read_step, spot_of}
-use Rattle.bus_memory.specs.Memory.{Memory, slot_at}
-use Rattle.bus_memory.specs.Windows.{is_fifo, start, window_at}
+use Rattle.sbp_world.proofs.Words.Std.{arith, ◌≡◌, refl, sym, ◌∙◌, ap, subst, ℕ, suc, ◌+◌, ◌-◌, ◌<◌, ◌≤◌, ◌==◌, ◌&&◌, ◌||◌, nat_lt, min, Bool, true, false, cond, List, [], length, take, drop, Option, Some, None, IfSome, Err, nat_tests, ext_get_or, get_or-drop, get_or-take}
+use Rattle.sbp_world.proofs.Words.Wire.{Moment, Cmd}
+use Rattle.sbp_world.proofs.Words.Initiator.{judged, judged_at, read_at, read_step, spot_of, Memory, slot_at, is_fifo, start, window_at, TypeError, Kept, kept_in, run, slot_in, addresses, buffer_addresses, chunk_from, Chunk, own_rom, InitiatorState}
+use Rattle.sbp_world.proofs.Words.Laws.{laid_out, rom_size, Orb, command_at, prepared_in, byte_of, goes_in}
+use Rattle.sbp_world.proofs.Words.World.{AllSend, DataLaw, SendsData, name}
+use Rattle.std.proofs.Common.{slice_index_or, length-drop, length-take}
 use Rattle.bus_memory.specs.declared.access.Access.TheVariants.{Read}
-use Rattle.bus_memory.specs.declared.access.Rcode.TheVariants.{TypeError}
 use Rattle.bus_memory.specs.declared.window.Window.TheVariants as windows
 use Rattle.bus_memory.proofs.Found.{window_here}
-use Rattle.orb_list.specs.Kept.{Kept, kept_in}
-use Rattle.orb_list.specs.Runs.{run}
-use Rattle.orb_list.specs.Table.{slot_in}
-use Rattle.page_table.specs.Buffer.{addresses, buffer_addresses, chunk_from}
-use Rattle.page_table.specs.declared.segment.Chunk.{Chunk}
 use Rattle.page_table.proofs.Places.{chunk_in_place}
-use Rattle.sbp_initiator.specs.Initiators.{own_rom}
-use Rattle.sbp_initiator.specs.declared.state.InitiatorState.{InitiatorState}
-use Rattle.sbp_journal.specs.Run.{Moment}
-use Rattle.sbp_journal.specs.declared.event.Cmd.{Cmd}
-use Rattle.sbp_laws.specs.CarriedBytes.{laid_out}
-use Rattle.sbp_laws.specs.JudgementLaw.{rom_size}
-use Rattle.sbp_laws.specs.Lists.{Orb, command_at, prepared_in}
-use Rattle.sbp_laws.specs.Served.{byte_of, goes_in}
-use Rattle.sbp_world.specs.Hosts.DataReads.{AllSend, DataLaw, SendsData}
-use Rattle.sbp_world.specs.Hosts.Rows.{name}
 use Rattle.sbp_world.proofs.Hosts.ByteLists.{data_laid}
 use Rattle.sbp_world.proofs.Hosts.BytePlaces.{FillsSegments, address_at, addresses_length, buffer_length, laid_at, laid_data, laid_room, place_of}
 use Rattle.sbp_world.proofs.Hosts.ByteRuns.{Bytes, bytes_between, bytes_of_runs}

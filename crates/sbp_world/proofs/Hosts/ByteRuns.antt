@@ -1,37 +1,15 @@
 -- In every run the page tables and the buffers in an initiator's memory hold what the history says.
-use Rattle.std.proofs.Common.{◌≡◌, refl, sym, ◌∙◌, ap, subst, ℕ, suc, ◌<◌, ◌==◌, Bool, true, false, List, [], ◌∷◌, ◌++◌, map, Option, Some, None}
-use Rattle.async_packet.specs.Labels.{LabelParts}
-use Rattle.bus_memory.specs.Memory.{Memory}
-use Rattle.sbp_initiator.specs.Histories.Ends.{own}
-use Rattle.sbp_initiator.specs.Histories.Laws.{after as laws_after, lets_expire, sees}
-use Rattle.rbc_disk.specs.Runs.{Told}
-use Rattle.sbp_bus.specs.Packets.{judged_note}
-use Rattle.sbp_initiator.specs.Acting.{act_step}
-use Rattle.sbp_initiator.specs.Effects.{Turn}
-use Rattle.sbp_initiator.specs.Initiators.{new_state}
-use Rattle.sbp_initiator.specs.Receiving.{expire_step, receive_step}
-use Rattle.sbp_initiator.specs.Seeing.{see_step}
-use Rattle.sbp_initiator.specs.declared.state.InitiatorState.{InitiatorState}
-use Rattle.sbp_journal.specs.Outgoings.{empty_outbox}
-use Rattle.sbp_journal.specs.Run.{Moment, asked, said}
-use Rattle.sbp_journal.specs.declared.event.Action.{Action}
+use Rattle.sbp_world.proofs.Words.Std.{◌≡◌, refl, sym, ◌∙◌, ap, subst, ℕ, suc, ◌<◌, ◌==◌, Bool, true, false, List, [], ◌∷◌, ◌++◌, map, Option, Some, None}
+use Rattle.sbp_world.proofs.Words.Wire.{LabelParts, judged_note, empty_outbox, Moment, asked, said, Action, Note, Side}
+use Rattle.sbp_world.proofs.Words.Target.{Told}
+use Rattle.sbp_world.proofs.Words.Initiator.{Memory, own, laws_after, lets_expire, sees, act_step, Turn, new_state, expire_step, receive_step, see_step, InitiatorState}
+use Rattle.sbp_world.proofs.Words.Laws.{action_notes, event_of}
+use Rattle.sbp_world.proofs.Words.World.{history_of, Run, world_after, beginning, MayAll, after_all, begun, initiator_at, BytesLaw, HoldsBytes, took_quadlet, behind, AreRows, IsRun, more_deliveries, IsHost}
 use Rattle.sbp_journal.specs.declared.event.Event.TheVariants as events
-use Rattle.sbp_journal.specs.declared.note.Note.{Note}
 use Rattle.sbp_journal.specs.declared.note.Note.TheVariants as notes
-use Rattle.sbp_journal.specs.declared.side.Side.{Side}
 use Rattle.sbp_journal.specs.declared.side.Side.TheVariants as sides
-use Rattle.sbp_laws.specs.Actions.{action_notes}
-use Rattle.sbp_laws.specs.Turns.{event_of}
-use Rattle.sbp_world.specs.Histories.{history_of}
-use Rattle.sbp_world.specs.Runs.{Run, after as world_after, beginning}
-use Rattle.sbp_world.specs.Settling.{MayAll, after_all}
-use Rattle.sbp_world.specs.Worlds.{begun, initiator_at}
-use Rattle.sbp_world.specs.Hosts.Bytes.{BytesLaw, HoldsBytes, took_quadlet}
-use Rattle.sbp_world.specs.Hosts.Calls.{behind, by_side}
-use Rattle.sbp_world.specs.Hosts.Fits.{AreRows}
+use Rattle.sbp_world.specs.Hosts.Calls.{by_side}
 use Rattle.sbp_world.specs.Hosts.Refusing.{initiator_of}
-use Rattle.sbp_world.specs.Hosts.Runs.{IsRun, more_deliveries}
-use Rattle.sbp_world.specs.Hosts.Worlds.{IsHost}
 use Rattle.sbp_world.proofs.Hosts.ByteActs.{acted_bytes, others_kept, told_kept}
 use Rattle.sbp_world.proofs.Hosts.ByteAnswers.{same_byte}
 use Rattle.sbp_world.proofs.Hosts.ByteHears.{heard_bytes}

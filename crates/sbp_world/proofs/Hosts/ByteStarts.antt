@@ -1,10 +1,9 @@
 -- What the page tables and the buffers in an initiator's memory hold as a run begins.
-use Rattle.std.proofs.Common.{◌≡◌, refl, ◌∙◌, ap, ℕ, zero, suc, Bool, [], ◌∷◌, replicate, slice_index_or}
-use Rattle.bus_memory.specs.Memory.{empty_slot}
-use Rattle.bus_memory.specs.declared.slot.SlotMemory.{SlotMemory}
+use Rattle.sbp_world.proofs.Words.Std.{◌≡◌, refl, ◌∙◌, ap, ℕ, zero, suc, Bool, [], ◌∷◌, replicate}
+use Rattle.sbp_world.proofs.Words.Wire.{asked, said}
+use Rattle.sbp_world.proofs.Words.Initiator.{empty_slot, SlotMemory, new_state, own_rom}
+use Rattle.std.proofs.Common.{slice_index_or}
 use Rattle.bus_memory.proofs.Written.{parts_law}
-use Rattle.sbp_initiator.specs.Initiators.{new_state, own_rom}
-use Rattle.sbp_journal.specs.Run.{asked, said}
 use Rattle.sbp_journal.specs.declared.event.Event.TheVariants as events
 use Rattle.sbp_journal.specs.declared.note.Note.TheVariants as notes
 use Rattle.sbp_world.proofs.Hosts.ByteTerms.{SlotBytes, byte_terms}

@@ -1,25 +1,13 @@
 -- What the history says of the page tables and the buffers of an initiator, and the notes that leave it.
-use Rattle.std.proofs.Common.{arith, ◌≡◌, refl, sym, ap, subst, ◌∙◌, ℕ, suc, ◌+◌, ◌<◌, ◌==◌, ◌&&◌, nat_eq, not, Bool, true, false, cond, List, [], ◌∷◌, slice_index_or, Option, Some, None}
-use Rattle.std.proofs.lemmas.Bool.Decides.{nat_tests}
-use Rattle.std.proofs.lemmas.Bool.{not-true}
-use Rattle.bus_memory.specs.Memory.{Memory, slot_at}
-use Rattle.bus_memory.specs.Windows.{start}
+use Rattle.sbp_world.proofs.Words.Std.{arith, ◌≡◌, refl, sym, ap, subst, ◌∙◌, ℕ, suc, ◌+◌, ◌<◌, ◌==◌, ◌&&◌, nat_eq, not, Bool, true, false, cond, List, [], ◌∷◌, Option, Some, None, nat_tests, not-true}
+use Rattle.sbp_world.proofs.Words.Wire.{Moment, said, Sending, terms, Cmd, Note, NoteBuffer}
+use Rattle.sbp_world.proofs.Words.Initiator.{Memory, slot_at, start, table_bytes}
+use Rattle.sbp_world.proofs.Words.Laws.{Orb, cmd_of, command_at, lowest_vacant, orb, prepared_in, slots, access_at, packet_at, receiver_in, byte_of, goes_in, in_front, is_complete_at, or_byte, table_held, table_in_slot, tables_before, tables_in_slot, is_serial, event_of}
+use Rattle.sbp_world.proofs.Words.World.{byte_brought, byte_held, is_got_by}
+use Rattle.std.proofs.Common.{slice_index_or}
 use Rattle.bus_memory.specs.declared.window.Window.TheVariants as windows
-use Rattle.orb_list.specs.Layout.{table_bytes}
-use Rattle.sbp_journal.specs.Run.{Moment, said}
-use Rattle.sbp_journal.specs.Transactions.{Sending}
-use Rattle.sbp_journal.specs.Wire.{terms}
-use Rattle.sbp_journal.specs.declared.event.Cmd.{Cmd}
-use Rattle.sbp_journal.specs.declared.note.Note.{Note}
 use Rattle.sbp_journal.specs.declared.note.Note.TheVariants as notes
-use Rattle.sbp_journal.specs.declared.note.NoteBuffer.{NoteBuffer}
 use Rattle.sbp_laws.specs.Lists as lists
-use Rattle.sbp_laws.specs.Lists.{Orb, cmd_of, command_at, lowest_vacant, orb, prepared_in, slots}
-use Rattle.sbp_laws.specs.Packets.{access_at, packet_at, receiver_in}
-use Rattle.sbp_laws.specs.Served.{byte_of, goes_in, in_front, is_complete_at, or_byte, table_held, table_in_slot, tables_before, tables_in_slot}
-use Rattle.sbp_laws.specs.Targets.{is_serial}
-use Rattle.sbp_laws.specs.Turns.{event_of}
-use Rattle.sbp_world.specs.Hosts.Bytes.{byte_brought, byte_held, is_got_by}
 use Rattle.sbp_world.proofs.Hosts.ByteCalls.{KeepsBytes}
 use Rattle.sbp_world.proofs.Hosts.Shown.{NotTo}
 use Rattle.sbp_world.proofs.Common.{turned as other_way, itself}

@@ -1,20 +1,13 @@
 -- What a write that an initiator's memory is asked for leaves of its page tables and its buffers.
-use Rattle.std.proofs.Common.{arith, ◌≡◌, refl, sym, ap, ◌∙◌, ℕ, ◌+◌, ◌-◌, ◌<◌, ◌≤◌, ◌==◌, ◌||◌, nat_le, nat_lt, Bool, true, false, cond, List, length, slice_index_or, Option, Some, None, Ok, Err}
-use Rattle.std.proofs.lemmas.Bool.Decides.{nat_tests}
-use Rattle.bus_memory.specs.Access.{judged, judged_at, spot_of, takes_writes, write_at, write_step}
-use Rattle.bus_memory.specs.Laws.{IsFound, IsWhole}
-use Rattle.bus_memory.specs.Memory.{Memory, is_written, patch, slot_at, with_bytes}
-use Rattle.bus_memory.specs.Windows.{is_fifo, start}
+use Rattle.sbp_world.proofs.Words.Std.{arith, ◌≡◌, refl, sym, ap, ◌∙◌, ℕ, ◌+◌, ◌-◌, ◌<◌, ◌≤◌, ◌==◌, ◌||◌, nat_le, nat_lt, Bool, true, false, cond, List, length, Option, Some, None, Ok, Err, nat_tests}
+use Rattle.sbp_world.proofs.Words.Initiator.{judged, judged_at, spot_of, takes_writes, write_at, write_step, IsFound, IsWhole, Memory, is_written, patch, slot_at, with_bytes, is_fifo, start, Rcode, AddressError, TypeError, Spot, Window}
+use Rattle.sbp_world.proofs.Words.Laws.{data_at, or_byte}
+use Rattle.sbp_world.proofs.Words.World.{byte_from}
+use Rattle.std.proofs.Common.{slice_index_or}
 use Rattle.bus_memory.specs.declared.access.Access.TheVariants.{Write}
-use Rattle.bus_memory.specs.declared.access.Rcode.{Rcode}
-use Rattle.bus_memory.specs.declared.access.Rcode.TheVariants.{AddressError, TypeError}
-use Rattle.bus_memory.specs.declared.access.Spot.{Spot}
-use Rattle.bus_memory.specs.declared.window.Window.{Window}
 use Rattle.bus_memory.specs.declared.window.Window.TheVariants as windows
 use Rattle.bus_memory.proofs.Found.{window_law}
 use Rattle.bus_memory.proofs.Written.{patch_byte}
-use Rattle.sbp_laws.specs.Served.{data_at, or_byte}
-use Rattle.sbp_world.specs.Hosts.Bytes.{byte_from}
 use Rattle.sbp_world.proofs.Hosts.ByteFills.{set_in}
 use Rattle.sbp_world.proofs.Hosts.ByteLists.{is_in, no_byte}
 use Rattle.sbp_world.proofs.Common.{untrue}

@@ -1,11 +1,10 @@
 -- The law of the calls of an initiator.
-use Rattle.std.proofs.Common.{refl, ℕ, Bool, [], ◌∷◌}
-use Rattle.sbp_journal.specs.Run.{asked, said}
-use Rattle.sbp_journal.specs.Outgoings.{empty_outbox}
+use Rattle.sbp_world.proofs.Words.Std.{refl, ℕ, Bool, [], ◌∷◌}
+use Rattle.sbp_world.proofs.Words.Wire.{asked, said, empty_outbox}
+use Rattle.sbp_world.proofs.Words.Initiator.{new_state}
+use Rattle.sbp_world.proofs.Words.World.{CallLaw, Listed}
 use Rattle.sbp_journal.specs.declared.event.Event.TheVariants as events
 use Rattle.sbp_journal.specs.declared.note.Note.TheVariants as notes
-use Rattle.sbp_initiator.specs.Initiators.{new_state}
-use Rattle.sbp_world.specs.Hosts.Calls.{CallLaw, Listed}
 use Rattle.sbp_world.proofs.Hosts.Acts.{act_left}
 use Rattle.sbp_world.proofs.Hosts.Beside.{begins}
 use Rattle.sbp_world.proofs.Hosts.Hears.{receive_listed, expire_listed}

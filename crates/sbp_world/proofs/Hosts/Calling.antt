@@ -1,11 +1,8 @@
 -- Every initiator of a run is what a list of its calls makes of a new one.
-use Rattle.std.proofs.Common.{◌≡◌, refl, ◌∙◌, ap, ℕ, Bool, List, [], ◌∷◌}
-use Rattle.sbp_journal.specs.Run.{Moment}
-use Rattle.sbp_journal.specs.Outgoings.{empty_outbox}
-use Rattle.sbp_initiator.specs.declared.state.InitiatorState.{InitiatorState}
-use Rattle.sbp_initiator.specs.Initiators.{new_state}
-use Rattle.sbp_initiator.specs.Histories.Laws.{Call, IsCall, acts, after, done, lets_expire, receives, sees}
-use Rattle.sbp_world.specs.Hosts.Calling.{CallsLaw, IsCalled}
+use Rattle.sbp_world.proofs.Words.Std.{◌≡◌, refl, ◌∙◌, ap, ℕ, Bool, List, [], ◌∷◌}
+use Rattle.sbp_world.proofs.Words.Wire.{Moment, empty_outbox}
+use Rattle.sbp_world.proofs.Words.Initiator.{InitiatorState, new_state, Call, IsCall, acts, after, done, lets_expire, receives, sees}
+use Rattle.sbp_world.proofs.Words.World.{CallsLaw, IsCalled}
 use Rattle.sbp_world.proofs.Hosts.Alone.{call_same}
 use Rattle.sbp_world.proofs.Hosts.Carried.{of_runs}
 use Rattle.sbp_world.proofs.Hosts.Carries.{Carries, Nothing}

@@ -1,40 +1,14 @@
 -- What the lines of a run carry on holds of each initiator after every line.
-use Rattle.std.proofs.Common.{arith, ◌≡◌, refl, sym, ◌∙◌, ap, subst, ℕ, suc, ◌+◌, ◌^◌, ◌<◌, ◌≤◌, ◌==◌, nat_lt, Bool, true, false, cond, List, [], ◌∷◌, ◌++◌, length, map, Option, Some, None}
-use Rattle.std.proofs.lemmas.Bool.Decides.{nat_tests}
-use Rattle.bus_transactions.specs.May.{is_reset}
+use Rattle.sbp_world.proofs.Words.Std.{arith, ◌≡◌, refl, sym, ◌∙◌, ap, subst, ℕ, suc, ◌+◌, ◌^◌, ◌<◌, ◌≤◌, ◌==◌, nat_lt, Bool, true, false, cond, List, [], ◌∷◌, ◌++◌, length, map, Option, Some, None, nat_tests}
+use Rattle.sbp_world.proofs.Words.Wire.{is_reset, Sent, flying, found_sent, Stored, Moment, asked, said, terms, Action, Event, node_of, reset_step, topology_at, end_note, no_node, no_packet}
+use Rattle.sbp_world.proofs.Words.Target.{Told, with_key}
+use Rattle.sbp_world.proofs.Words.Initiator.{InitiatorState, Demand, asked_for, demand_of, wanted_body, new_state}
+use Rattle.sbp_world.proofs.Words.World.{moments_behind, MayHappen, acted, happens, keyed, no_unit, new_world, reset_line, MayIf, delivered_if, inject_line, injected, injected_to, is_in_flight, lose_line, lost, may_repeat, refused, AreEntries, Entry, Run, after, beginning, posted, MayAll, MayNext, after_all, delivered_at, delivered_next, is_settled, lowest, Scene, WorldState, begun, initiator_at, with_note, with_target, without_notes, AreLines, IsLine, Stands, BytesTold, history, IsRun, more_deliveries}
 use Rattle.bus_transactions.proofs.Fits.{request_fits}
 use Rattle.bus_transactions.proofs.Follows.{last_is}
-use Rattle.packet_store.specs.declared.sent.Sent.{Sent}
-use Rattle.packet_store.specs.Kept.{flying, found_sent}
-use Rattle.packet_store.specs.Stored.{Stored}
-use Rattle.rbc_disk.specs.Runs.{Told}
-use Rattle.sbp_journal.specs.Run.{Moment, asked, said}
-use Rattle.sbp_journal.specs.Wire.{terms}
-use Rattle.sbp_journal.specs.declared.event.Action.{Action}
-use Rattle.sbp_journal.specs.declared.event.Event.{Event}
 use Rattle.sbp_journal.specs.declared.event.Event.TheVariants as events
 use Rattle.sbp_journal.specs.declared.note.Note.TheVariants as notes
-use Rattle.sbp_initiator.specs.declared.state.InitiatorState.{InitiatorState}
-use Rattle.sbp_initiator.specs.declared.purpose.Demand.{Demand}
-use Rattle.sbp_initiator.specs.Acting.{asked_for, demand_of}
-use Rattle.sbp_initiator.specs.States.{wanted_body}
-use Rattle.sbp_initiator.specs.Initiators.{new_state}
-use Rattle.sbp_bus.specs.Generations.{node_of, reset_step, topology_at}
-use Rattle.sbp_bus.specs.Packets.{end_note, no_node, no_packet}
-use Rattle.sbp_target.specs.Receiving.{with_key}
-use Rattle.sbp_world.specs.Histories.{moments_behind}
-use Rattle.sbp_world.specs.Lines.{MayHappen, acted, happens, keyed, no_unit}
-use Rattle.sbp_world.specs.Making.{new_world}
-use Rattle.sbp_world.specs.Nodes.{reset_line}
-use Rattle.sbp_world.specs.Packets.{MayIf, delivered_if, inject_line, injected, injected_to, is_in_flight, lose_line, lost, may_repeat, refused}
-use Rattle.sbp_world.specs.Runs.{AreEntries, Entry, Run, after, beginning}
-use Rattle.sbp_world.specs.Sending.{posted}
-use Rattle.sbp_world.specs.Settling.{MayAll, MayNext, after_all, delivered_at, delivered_next, is_settled, lowest}
 use Rattle.sbp_world.specs.Settling as settling
-use Rattle.sbp_world.specs.Worlds.{Scene, WorldState, begun, initiator_at, with_note, with_target, without_notes}
-use Rattle.sbp_world.specs.Wire.Lines.{AreLines, IsLine}
-use Rattle.sbp_world.specs.Wire.Wires.{Stands}
-use Rattle.sbp_world.specs.FitTarget.{BytesTold}
 use Rattle.sbp_world.proofs.FitInitiator.Law.{fitting_law as own_fitting_law}
 use Rattle.sbp_world.proofs.FitTarget.Law.{fitting_law}
 use Rattle.sbp_world.proofs.Making.{initiators_size}
@@ -46,8 +20,6 @@ use Rattle.sbp_world.proofs.Wire.Runs.{sound_after}
 use Rattle.sbp_world.proofs.Wire.Sound.{first_flies, next_heard, opens}
 use Rattle.sbp_world.proofs.Wire.Starts.{states_at}
 use Rattle.sbp_world.proofs.Wire.ToldBytes.{AreTold, happened_fits}
-use Rattle.sbp_world.specs.Hosts.Handing.{history}
-use Rattle.sbp_world.specs.Hosts.Runs.{IsRun, more_deliveries}
 use Rattle.sbp_world.proofs.Hosts.Acting.{acts}
 use Rattle.sbp_world.proofs.Hosts.Asked.{IfRequest, is_request}
 use Rattle.sbp_world.proofs.Hosts.Carries.{Are, Carries, CarriesSent, IsLineOf, IsNoAct, NoneActs, by_more, note_carried}

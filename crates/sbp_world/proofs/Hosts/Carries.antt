@@ -1,40 +1,15 @@
 -- What the lines of a run carry on of the initiators of its world: a statement on a history and an initiator that stays as others tell and do
 -- something, and that each call of the initiator itself keeps.
-use Rattle.std.proofs.Common.{arith, ◌≡◌, refl, sym, ◌∙◌, ap, subst, ℕ, suc, ◌+◌, ◌<◌, ◌==◌, not, Bool, true, false, List, [], ◌∷◌, length, get_or, Option, Some, None}
-use Rattle.std.proofs.lemmas.Bool.Decides.{nat_tests}
+use Rattle.sbp_world.proofs.Words.Std.{arith, ◌≡◌, refl, sym, ◌∙◌, ap, subst, ℕ, suc, ◌+◌, ◌<◌, ◌==◌, not, Bool, true, false, List, [], ◌∷◌, length, get_or, Option, Some, None, nat_tests}
+use Rattle.sbp_world.proofs.Words.Wire.{LabelParts, expiring_step, judging_step, seeing_step, Moment, asks, said, terms, OutboxState, empty_outbox, Action, Event, Note, Outgoing, Side, node_of, topology_at, judged_note, list_in, orb_in, check_of, function_word, login_if}
+use Rattle.sbp_world.proofs.Words.Target.{NodeState}
+use Rattle.sbp_world.proofs.Words.Initiator.{IsAction, act_step, Turn, new_state, expire_step, receive_step, see_step, InitiatorState}
+use Rattle.sbp_world.proofs.Words.Laws.{event_of}
+use Rattle.sbp_world.proofs.Words.World.{FillsAction, handed_out, asked, posted, sent, sent_all, sent_to, holder, initiator_of, ticket_of, told, told_all, WorldState, initiator_at, with_initiator, with_note, with_target, behind, AreNotes, AreOthers, IsOther, history}
 use Rattle.std.proofs.lemmas.List.{length-set}
-use Rattle.async_packet.specs.Labels.{LabelParts}
-use Rattle.label_table.specs.Layer.{expiring_step, judging_step, seeing_step}
-use Rattle.sbp_journal.specs.Run.{Moment, asked as asks, said}
-use Rattle.sbp_journal.specs.Wire.{terms}
-use Rattle.sbp_journal.specs.Outgoings.{OutboxState, empty_outbox}
-use Rattle.sbp_journal.specs.declared.event.Action.{Action}
-use Rattle.sbp_journal.specs.declared.event.Event.{Event}
 use Rattle.sbp_journal.specs.declared.event.Event.TheVariants as events
-use Rattle.sbp_journal.specs.declared.note.Note.{Note}
 use Rattle.sbp_journal.specs.declared.note.Note.TheVariants as notes
-use Rattle.sbp_journal.specs.declared.outbox.Outgoing.{Outgoing}
-use Rattle.sbp_journal.specs.declared.side.Side.{Side}
 use Rattle.sbp_journal.specs.declared.side.Side.TheVariants as sides
-use Rattle.sbp_initiator.specs.Acting.{IsAction, act_step}
-use Rattle.sbp_world.specs.Wire.Lines.{FillsAction}
-use Rattle.sbp_initiator.specs.Effects.{Turn}
-use Rattle.sbp_initiator.specs.Initiators.{new_state}
-use Rattle.sbp_initiator.specs.Receiving.{expire_step, receive_step}
-use Rattle.sbp_initiator.specs.Seeing.{see_step}
-use Rattle.sbp_initiator.specs.declared.state.InitiatorState.{InitiatorState}
-use Rattle.sbp_bus.specs.Generations.{node_of, topology_at}
-use Rattle.sbp_bus.specs.Packets.{judged_note}
-use Rattle.sbp_bus.specs.Telling.{list_in, orb_in}
-use Rattle.sbp_bus.specs.Words.{check_of, function_word, login_if}
-use Rattle.sbp_laws.specs.Turns.{event_of}
-use Rattle.sbp_target.specs.Nodes.{NodeState}
-use Rattle.sbp_world.specs.Handing.{handed_out}
-use Rattle.sbp_world.specs.Sending.{asked, posted, sent, sent_all, sent_to}
-use Rattle.sbp_world.specs.Telling.{holder, initiator_of, ticket_of, told, told_all}
-use Rattle.sbp_world.specs.Worlds.{WorldState, initiator_at, with_initiator, with_note, with_target}
-use Rattle.sbp_world.specs.Hosts.Calls.{behind}
-use Rattle.sbp_world.specs.Hosts.Handing.{AreNotes, AreOthers, IsOther, history}
 use Rattle.sbp_world.proofs.Hosts.Asked.{IsRequest, number_in}
 use Rattle.sbp_world.proofs.Hosts.Hands.{all_own, line_stays as line_same}
 use Rattle.sbp_world.proofs.Hosts.Hosting.{hands_keep, state_here, state_there}

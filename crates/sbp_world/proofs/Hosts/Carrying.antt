@@ -1,38 +1,13 @@
 -- The responses of every run bring what the memory of their initiator held.
-use Rattle.std.proofs.Common.{arith, ◌≡◌, refl, sym, ◌∙◌, ap, subst, ℕ, suc, ◌+◌, ◌*◌, ◌<◌, ◌≤◌, nat_lt, Bool, true, false, cond, List, [], ◌∷◌, ◌++◌, length, map, Option, Some, append_assoc}
-use Rattle.std.proofs.lemmas.Bool.Decides.{nat_tests}
-use Rattle.async_packet.specs.Packet.{Packet}
-use Rattle.async_packet.specs.Reading.{reading}
+use Rattle.sbp_world.proofs.Words.Std.{arith, ◌≡◌, refl, sym, ◌∙◌, ap, subst, ℕ, suc, ◌+◌, ◌*◌, ◌<◌, ◌≤◌, nat_lt, Bool, true, false, cond, List, [], ◌∷◌, ◌++◌, length, map, Option, Some, append_assoc, nat_tests}
+use Rattle.sbp_world.proofs.Words.Wire.{Packet, reading, SerialsCount, Access, Moment, said, Sending, terms, Event}
+use Rattle.sbp_world.proofs.Words.Target.{Told}
+use Rattle.sbp_world.proofs.Words.Initiator.{start, CommandOrb, OrbPointer, Null, At, command_orb, pointer_at}
+use Rattle.sbp_world.proofs.Words.Laws.{IsRead, address_of, before_sent, Orb, is_dummy, linked, orb, prepared_in, slot_at, answer_in, packet_at, packet_in, receiver_in, spelled_by, appends}
+use Rattle.sbp_world.proofs.Words.World.{history_of, Run, after, beginning, MayAll, begun, IsDelivering, AllBring, Brings, CarriesLaw, Follows, HoldsTable, IsOfOrb, IsResponse, LeadsOn, NoneInjected, Lasts, format_of, next_of, orb_for, Remains, CarriesOrb, IsRun}
 use Rattle.bus_memory.specs.declared.window.Window.TheVariants as windows
-use Rattle.bus_memory.specs.Windows.{start}
-use Rattle.bus_transactions.specs.Packets.{SerialsCount}
-use Rattle.orb_layout.specs.declared.command.CommandOrb.{CommandOrb}
-use Rattle.orb_layout.specs.declared.pointer.OrbPointer.{OrbPointer}
-use Rattle.orb_layout.specs.declared.pointer.OrbPointer.TheVariants.{Null, At}
-use Rattle.orb_layout.specs.CommandOrbs.{command_orb}
-use Rattle.orb_layout.specs.Pointers.{pointer_at}
-use Rattle.rbc_disk.specs.Runs.{Told}
-use Rattle.sbp_journal.specs.Addresses.{Access}
-use Rattle.sbp_journal.specs.Run.{Moment, said}
-use Rattle.sbp_journal.specs.Transactions.{Sending}
-use Rattle.sbp_journal.specs.Wire.{terms}
-use Rattle.sbp_journal.specs.declared.event.Event.{Event}
 use Rattle.sbp_journal.specs.declared.note.Note.TheVariants as notes
-use Rattle.sbp_laws.specs.CarriedBytes.{IsRead, address_of, before_sent}
-use Rattle.sbp_laws.specs.Lists.{Orb, is_dummy, linked, orb, prepared_in, slot_at}
-use Rattle.sbp_laws.specs.Packets.{answer_in, packet_at, packet_in, receiver_in, spelled_by}
-use Rattle.sbp_laws.specs.Terms.{appends}
-use Rattle.sbp_world.specs.Histories.{history_of}
-use Rattle.sbp_world.specs.Runs.{Run, after, beginning}
-use Rattle.sbp_world.specs.Settling.{MayAll}
-use Rattle.sbp_world.specs.Worlds.{begun}
-use Rattle.sbp_world.specs.Hosts.Answering.{IsDelivering}
-use Rattle.sbp_world.specs.Hosts.Carrying.{AllBring, Brings, CarriesLaw, Follows, HoldsTable, IsOfOrb, IsOrbOf, IsResponse, IsServed, LeadsOn, NoneInjected}
-use Rattle.sbp_world.specs.Hosts.Lasting.{Lasts}
-use Rattle.sbp_world.specs.Hosts.Orbs.{format_of, next_of, orb_for}
-use Rattle.sbp_world.specs.Hosts.Remaining.{Remains}
-use Rattle.sbp_world.specs.Hosts.Responses.{CarriesOrb}
-use Rattle.sbp_world.specs.Hosts.Runs.{IsRun}
+use Rattle.sbp_world.specs.Hosts.Carrying.{IsOrbOf, IsServed}
 use Rattle.sbp_world.proofs.Hosts.Carries.{by_more}
 use Rattle.sbp_world.proofs.Hosts.Between.{OfWire, between, carried_there, of_wire, of_wire_there}
 use Rattle.sbp_world.proofs.Hosts.Carried.{of_runs}

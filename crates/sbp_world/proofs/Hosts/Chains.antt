@@ -1,36 +1,18 @@
 -- The slots of ORBs that are not over, and their next pointers.
-use Rattle.std.proofs.Common.{arith, ◌≡◌, refl, sym, ◌∙◌, ap, subst, ℕ, ◌+◌, ◌<◌, ◌≤◌, ◌==◌, ◌&&◌, ◌||◌, not, nat_eq, Bool, true, false, cond, List, [], ◌∷◌, length, map, slice_set, Option, Some, None, Result, Ok, Err}
-use Rattle.std.proofs.Math.ListN.{length-set}
-use Rattle.std.proofs.lemmas.Bool.Decides.{nat_tests}
-use Rattle.std.proofs.lemmas.List.Quantifiers.{position-Some}
-use Rattle.std.specs.Prelude.{unwrap_or}
+use Rattle.sbp_world.proofs.Words.Std.{arith, ◌≡◌, refl, sym, ◌∙◌, ap, subst, ℕ, ◌+◌, ◌<◌, ◌≤◌, ◌==◌, ◌&&◌, ◌||◌, not, nat_eq, Bool, true, false, cond, List, [], ◌∷◌, length, map, Option, Some, None, Result, Ok, Err, length-set, nat_tests, position-Some, unwrap_or}
+use Rattle.sbp_world.proofs.Words.Initiator.{Memory, slot_of, StatusBlock, row_of, ListFault, Link, Linking, PresentList, SlotState, Slot, dropped_at, free_by, is_linked, is_over_by, is_passed, over_by, status_of, pinned_by, PinsAlone, HoldsLink, HoldsPresent, IsBefore, was_prepared, Kept, in_slot, is_dummy, kept_in, low_is, new_kept, next_is, Asked, Prepare, LinkLow, LinkHigh, MakeDummy, TakeStatus, DropList, FreeAll, Pin, Unpin, TryWrite, Fill, SetQuad, Note, Prepared, LowWritten, Linked, Dummied, Taken, Dropped, Freed, Pinned, Unpinned, if_ok, if_some, left_by, noted_by, run, SlotTable, is_free, is_pinned, may_prepare, next_ticket, slot_in, unused, waits_high, waits_low, TicketParts, is_ticket}
+use Rattle.sbp_world.proofs.Words.World.{KeepingLaw, linked_as, points_to}
+use Rattle.std.proofs.Common.{slice_set}
 use Rattle.bus_memory.proofs.Written.{replicated}
-use Rattle.bus_memory.specs.Memory.{Memory}
-use Rattle.bus_memory.specs.Windows.{slot_of}
-use Rattle.orb_layout.specs.declared.status.StatusBlock.{StatusBlock}
-use Rattle.orb_layout.specs.StatusBlocks.{row_of}
-use Rattle.orb_list.specs.declared.fault.ListFault.{ListFault}
-use Rattle.orb_list.specs.declared.list.Link.{Link}
 use Rattle.orb_list.specs.declared.list.Link.TheVariants as links
-use Rattle.orb_list.specs.declared.list.Linking.{Linking}
-use Rattle.orb_list.specs.declared.list.PresentList.{PresentList}
-use Rattle.orb_list.specs.declared.slot.SlotState.{SlotState}
 use Rattle.orb_list.specs.declared.slot.SlotState.TheVariants as states
-use Rattle.orb_list.specs.declared.slot.Slot.{Slot}
-use Rattle.orb_list.specs.Frees.{dropped_at, free_by, is_linked, is_over_by, is_passed, over_by, status_of, pinned_by, PinsAlone}
-use Rattle.orb_list.specs.Holds.{HoldsLink, HoldsPresent, IsBefore}
-use Rattle.orb_list.specs.Keeps.{was_prepared}
-use Rattle.orb_list.specs.Kept.{Kept, in_slot, is_dummy, kept_in, low_is, new_kept, next_is}
-use Rattle.orb_list.specs.Requests.{Asked}
-use Rattle.orb_list.specs.Runs.{Call, Prepare, LinkLow, LinkHigh, MakeDummy, TakeStatus, DropList, FreeAll, Pin, Unpin, TryWrite, Fill, SetQuad, Note, Prepared, LowWritten, Linked, Dummied, Taken, Dropped, Freed, Pinned, Unpinned, if_ok, if_some, left_by, noted_by, run}
+use Rattle.orb_list.specs.Runs.{Call}
 use Rattle.orb_list.specs.Table as table
-use Rattle.orb_list.specs.Table.{SlotTable, is_free, is_pinned, may_prepare, next_ticket, slot_in, unused, waits_high, waits_low}
-use Rattle.orb_list.specs.Tickets.{TicketParts, is_ticket}
 use Rattle.orb_list.proofs.Frees.{free_law}
 use Rattle.orb_list.proofs.Keeps.{keeps_law}
 use Rattle.orb_list.proofs.Steps.{held_law}
 use Rattle.orb_list.proofs.Tied.{may_lowest, past_slots, released_last, rested_last, same_ticket, set_here, set_there, ticket_itself, tied_run}
-use Rattle.sbp_world.specs.Hosts.Keeping.{HasSlot, KeepingLaw, asked_for, linked_as, points_to}
+use Rattle.sbp_world.specs.Hosts.Keeping.{HasSlot, asked_for}
 use Rattle.sbp_world.proofs.Hosts.Appends.{added_to}
 use Rattle.sbp_world.proofs.Hosts.Sweeps.{map_at}
 

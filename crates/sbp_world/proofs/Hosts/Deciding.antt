@@ -1,23 +1,12 @@
 -- The refusal of an action of a run.
-use Rattle.std.proofs.Common.{◌≡◌, refl, sym, ◌∙◌, ap, ℕ, ◌<◌, ◌&&◌, not, Bool, true, false, List}
-use Rattle.sbp_journal.specs.Outgoings.{OutboxState}
-use Rattle.sbp_journal.specs.Rows.{Refusals, refusal_of}
-use Rattle.sbp_journal.specs.Run.{Moment}
-use Rattle.sbp_journal.specs.declared.event.Action.{Action}
+use Rattle.sbp_world.proofs.Words.Std.{◌≡◌, refl, sym, ◌∙◌, ap, ℕ, ◌<◌, ◌&&◌, not, Bool, true, false, List}
+use Rattle.sbp_world.proofs.Words.Wire.{OutboxState, Refusals, refusal_of, Moment, Action}
+use Rattle.sbp_world.proofs.Words.Initiator.{InitiatorState, act_step, facts_with, ends_list, operation_of, refusal, rows_of, sends, finds_label}
+use Rattle.sbp_world.proofs.Words.Laws.{refusal_at, refusals, Host, host_at}
+use Rattle.sbp_world.proofs.Words.World.{history_of, Run, HasRows, RunRefusalLaw, is_decided, IsRun}
 use Rattle.sbp_journal.specs.declared.event.Action.TheVariants as actions
 use Rattle.sbp_initiator.proofs.FirstRow.{refusal_law}
-use Rattle.sbp_initiator.specs.declared.state.InitiatorState.{InitiatorState}
-use Rattle.sbp_initiator.specs.Acting.{act_step, facts_with}
-use Rattle.sbp_initiator.specs.Refusals.{ends_list, operation_of, refusal, rows_of, sends}
-use Rattle.sbp_initiator.specs.Refusing.{finds_label}
-use Rattle.sbp_laws.specs.Actions.{refusal_at, refusals}
-use Rattle.sbp_laws.specs.Hosts.{Host, host_at}
-use Rattle.sbp_world.specs.Histories.{history_of}
-use Rattle.sbp_world.specs.Runs.{Run}
-use Rattle.sbp_world.specs.Hosts.Acting.{HasRows}
-use Rattle.sbp_world.specs.Hosts.Deciding.{RunRefusalLaw, is_decided}
 use Rattle.sbp_world.specs.Hosts.Refusing.{initiator_of}
-use Rattle.sbp_world.specs.Hosts.Runs.{IsRun}
 use Rattle.sbp_world.proofs.Hosts.Hosted.{host_law}
 use Rattle.sbp_world.proofs.Hosts.Refusing.{run_action_law}
 use Rattle.sbp_world.proofs.Common.{untrue}

@@ -1,51 +1,23 @@
 -- Only deliveries tell that a packet was got.
-use Rattle.std.proofs.Common.{arith, ◌≡◌, refl, sym, ◌∙◌, ap, subst, ℕ, zero, suc, ◌+◌, ◌<◌, ◌≤◌, nat_lt, Bool, true, false, cond, List, [], ◌∷◌, ◌++◌, length, map, slice_set, Option, Some, None, append_assoc}
-use Rattle.std.proofs.lemmas.Bool.Decides.{nat_tests}
-use Rattle.bus_transactions.specs.Wire.{as_sending}
-use Rattle.packet_store.specs.declared.sent.Sent.{Sent}
-use Rattle.packet_store.specs.Kept.{found_sent}
-use Rattle.rbc_disk.specs.Runs.{Told}
-use Rattle.sbp_journal.specs.Outgoings.{OutboxState, empty_outbox}
-use Rattle.sbp_journal.specs.Run.{Moment, asked, said}
-use Rattle.sbp_journal.specs.Wire.{terms}
-use Rattle.sbp_journal.specs.declared.cause.Judged.{Judged}
+use Rattle.sbp_world.proofs.Words.Std.{arith, ◌≡◌, refl, sym, ◌∙◌, ap, subst, ℕ, zero, suc, ◌+◌, ◌<◌, ◌≤◌, nat_lt, Bool, true, false, cond, List, [], ◌∷◌, ◌++◌, length, map, Option, Some, None, append_assoc, nat_tests}
+use Rattle.sbp_world.proofs.Words.Wire.{as_sending, Sent, found_sent, OutboxState, empty_outbox, Moment, asked, said, terms, Judged, Action, Event, Note, Side, Request, end_note, judged_note, find}
+use Rattle.sbp_world.proofs.Words.Target.{Told}
+use Rattle.sbp_world.proofs.Words.Initiator.{InitiatorState, act_step, Turn, receive_step, is_step}
+use Rattle.sbp_world.proofs.Words.Laws.{AreEffects, begins_delivery, is_effect}
+use Rattle.sbp_world.proofs.Words.World.{MayReceive, arrived, delivered, delivered_by, initiators_received, listed, marked, received_by, received_step, handed_out, history_of, moments_behind, MayHappen, acted, acted_by, happens, keyed, weight_in, reset_line, see_line, tick_line, MayIf, delivered_if, expires, inject_line, injected, injected_to, is_in_flight, lose_line, may_repeat, timed_out, timeout_line, timeout_of, Entry, Run, after, beginning, posted, MayAll, MayNext, after_all, delivered_at, delivered_next, is_settled, lowest, told, told_all, Scene, WorldState, begun, initiator_at, with_initiator, with_note, IsDelivering, DeliveriesLaw, IsDelivered, front_of, IsRun}
+use Rattle.std.proofs.Common.{slice_set}
 use Rattle.sbp_journal.specs.declared.cause.Judged.TheVariants as judgements
-use Rattle.sbp_journal.specs.declared.event.Action.{Action}
-use Rattle.sbp_journal.specs.declared.event.Event.{Event}
 use Rattle.sbp_journal.specs.declared.event.Event.TheVariants as events
-use Rattle.sbp_journal.specs.declared.note.Note.{Note}
 use Rattle.sbp_journal.specs.declared.note.Note.TheVariants as notes
-use Rattle.sbp_journal.specs.declared.side.Side.{Side}
 use Rattle.sbp_journal.specs.declared.side.Side.TheVariants as sides
-use Rattle.sbp_initiator.specs.declared.state.InitiatorState.{InitiatorState}
-use Rattle.sbp_initiator.specs.Acting.{act_step}
-use Rattle.sbp_initiator.specs.Effects.{Turn}
-use Rattle.sbp_initiator.specs.Receiving.{receive_step}
-use Rattle.sbp_initiator.specs.Steps.{is_step}
-use Rattle.sbp_bus.specs.declared.requests.Request.{Request}
-use Rattle.sbp_bus.specs.Packets.{end_note, judged_note}
-use Rattle.sbp_bus.specs.Requests.{find}
-use Rattle.sbp_laws.specs.Deliveries.{AreEffects, delivered_by as begins_delivery, is_effect}
-use Rattle.sbp_world.specs.Delivering.{MayReceive, arrived, at_initiator, delivered, delivered_by, initiators_received, listed, marked, received_by, received_step}
-use Rattle.sbp_world.specs.Handing.{handed_out}
-use Rattle.sbp_world.specs.Histories.{history_of, moments_behind}
-use Rattle.sbp_world.specs.Lines.{MayHappen, acted, acted_by, happens, keyed, weight_in}
-use Rattle.sbp_world.specs.Nodes.{reset_line, see_line, tick_line}
-use Rattle.sbp_world.specs.Packets.{MayIf, delivered_if, expires, inject_line, injected, injected_to, is_in_flight, lose_line, may_repeat, timed_out, timeout_line, timeout_of}
-use Rattle.sbp_world.specs.Runs.{Entry, Run, after, beginning}
-use Rattle.sbp_world.specs.Sending.{posted}
-use Rattle.sbp_world.specs.Settling.{MayAll, MayNext, after_all, delivered_at, delivered_next, is_settled, lowest}
+use Rattle.sbp_world.specs.Delivering.{at_initiator}
 use Rattle.sbp_world.specs.Settling as settling
-use Rattle.sbp_world.specs.Telling.{told, told_all}
-use Rattle.sbp_world.specs.Worlds.{Scene, WorldState, begun, initiator_at, with_initiator, with_note}
 use Rattle.sbp_world.proofs.Wire.Comes.{own_inside, own_outside, to_own}
 use Rattle.sbp_world.proofs.Wire.Gains.{Gains, all_sent, hands_out}
 use Rattle.sbp_world.proofs.Wire.OwnActs.{AreStepSides, IsStepSide, acts}
 use Rattle.sbp_world.proofs.Wire.OwnTells as own
 use Rattle.sbp_world.proofs.Wire.Turned.{Turned, delivers, lapse_turns, second_turns, sight_turns, stale_refuses, marked_by}
-use Rattle.sbp_world.specs.Hosts.Answering.{IsDelivering}
-use Rattle.sbp_world.specs.Hosts.Deliveries.{DeliveriesLaw, IsDelivered, WasGot, front_of}
-use Rattle.sbp_world.specs.Hosts.Runs.{IsRun}
+use Rattle.sbp_world.specs.Hosts.Deliveries.{WasGot}
 use Rattle.sbp_world.proofs.Hosts.Between.{stands_there}
 use Rattle.sbp_world.proofs.Hosts.GotRequests.{request_got}
 use Rattle.sbp_world.proofs.Hosts.Knows.{was_sent}

@@ -1,16 +1,11 @@
 -- The present list is dropped, and a generation frees every slot.
-use Rattle.std.proofs.Common.{◌≡◌, refl, sym, ◌∙◌, ap, subst, ℕ, ◌+◌, ◌<◌, Bool, true, false, cond, List, [], ◌∷◌, length, map, replicate, Option, Some, None}
-use Rattle.std.proofs.lemmas.List.{length-map}
-use Rattle.orb_list.specs.declared.slot.SlotState.{SlotState}
+use Rattle.sbp_world.proofs.Words.Std.{◌≡◌, refl, sym, ◌∙◌, ap, subst, ℕ, ◌+◌, ◌<◌, Bool, true, false, cond, List, [], ◌∷◌, length, map, replicate, Option, Some, None, length-map}
+use Rattle.sbp_world.proofs.Words.Initiator.{SlotState, Slot, TicketParts, SlotTable, slot_in, is_free, free_state, rested}
+use Rattle.sbp_world.proofs.Words.Laws.{TakenStatus, Row, vacant, put_to_rest, new_slots}
+use Rattle.sbp_world.proofs.Words.World.{name_in, row, row_by, ListTerms, over_at, IfLast, StateFits, IfHeld, Fits, Frees, Rows}
 use Rattle.orb_list.specs.declared.slot.SlotState.TheVariants as states
-use Rattle.orb_list.specs.declared.slot.Slot.{Slot}
-use Rattle.orb_list.specs.Tickets.{TicketParts}
 use Rattle.orb_list.specs.Table as table
-use Rattle.orb_list.specs.Table.{SlotTable, slot_in, is_free, free_state, rested}
 use Rattle.orb_list.proofs.Tied.{rested_last}
-use Rattle.sbp_laws.specs.Lists.{TakenStatus, SlotState as Row, vacant, put_to_rest, new_slots}
-use Rattle.sbp_world.specs.Hosts.Rows.{name_in, row, row_by}
-use Rattle.sbp_world.specs.Hosts.Fits.{ListTerms, over_at, IfLast, StateFits, IfHeld, Fits, Frees, Rows}
 use Rattle.sbp_world.proofs.Hosts.Sweeps.{map_at, closes_still}
 
 -- the terms behind a drop, and behind a generation that is seen

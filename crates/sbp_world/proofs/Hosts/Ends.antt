@@ -1,43 +1,17 @@
 -- The end of a transaction of an initiator.
-use Rattle.std.proofs.Common.{not, ◌≡◌, refl, sym, ◌∙◌, ap, subst, ℕ, ◌==◌, Bool, true, false, cond, List, ◌∷◌, length, Option, Some, None, Result, Ok, Err}
-use Rattle.bus_memory.specs.Memory.{Memory}
-use Rattle.config_rom.specs.declared.fault.RomFault.{RomFault}
-use Rattle.config_rom.specs.declared.unit.SbpUnit.{SbpUnit}
-use Rattle.config_rom.specs.Reading.{Tree, reading}
-use Rattle.config_rom.specs.Unit.{sbp_unit_of}
-use Rattle.label_table.specs.declared.judgement.Asked.{Asked}
-use Rattle.label_table.specs.Layer.{Layer, asking_step}
-use Rattle.orb_list.specs.declared.list.PresentList.{PresentList}
-use Rattle.orb_list.specs.Tickets.{TicketParts}
+use Rattle.sbp_world.proofs.Words.Std.{not, ◌≡◌, refl, sym, ◌∙◌, ap, subst, ℕ, ◌==◌, Bool, true, false, cond, List, ◌∷◌, length, Option, Some, None, Result, Ok, Err}
+use Rattle.sbp_world.proofs.Words.Wire.{Asked, Layer, asking_step, Moment, said, OutboxState, Note, Operation, OpWord}
+use Rattle.sbp_world.proofs.Words.Target.{RomFault, SbpUnit, Tree, reading, sbp_unit_of}
+use Rattle.sbp_world.proofs.Words.Initiator.{Memory, PresentList, TicketParts, SlotTable, Event, bad, conflict, Ending, Purpose, Running, InitiatorState, ListState, drop_lists, unpin_lists, with_slots, with_quad, ends_list, counts_for, is_list, management_at, is_stuck_seat, Turn, asked_quad, ask_quad, conflict_for, conflict_step, doorbell_ended, drop_list_step, drop_where, dropped_as, enable_ended, end_own_for, end_own_step, end_step, ended_for, ended_step, fail_step, fault_number, finish_rom, good_end, good_event, good_word, is_address, is_conflict, known_step, known_where, managed_step, management_ended, moved, moves_session, next_quad, pointed_step, pointer_ended, quad_got, reset_ended, response_of, rom_ended, state_ended, state_told, stick_step, told, with_dead, with_rom, with_unit}
+use Rattle.sbp_world.proofs.Words.World.{AreRows, is_beside, behind, Listed, PinOf, Pins}
 use Rattle.orb_list.specs.Table as table
-use Rattle.orb_list.specs.Table.{SlotTable}
-use Rattle.sbp_journal.specs.Run.{Moment, said}
-use Rattle.sbp_journal.specs.Outgoings.{OutboxState}
-use Rattle.sbp_journal.specs.declared.note.Note.{Note}
 use Rattle.sbp_journal.specs.declared.note.Note.TheVariants as notes
-use Rattle.sbp_journal.specs.declared.operation.Operation.{Operation}
 use Rattle.sbp_journal.specs.declared.operation.Operation.TheVariants as operations
-use Rattle.sbp_journal.specs.declared.operation.OpWord.{OpWord}
 use Rattle.sbp_journal.specs.declared.operation.OpWord.TheVariants as words
-use Rattle.sbp_session.specs.Moves.{Event, bad, conflict}
-use Rattle.sbp_initiator.specs.declared.purpose.Ending.{Ending}
 use Rattle.sbp_initiator.specs.declared.purpose.Ending.TheVariants as endings
-use Rattle.sbp_initiator.specs.declared.purpose.Purpose.{Purpose}
 use Rattle.sbp_initiator.specs.declared.purpose.Purpose.TheVariants as purposes
-use Rattle.sbp_initiator.specs.declared.purpose.Running.{Running}
-use Rattle.sbp_initiator.specs.declared.state.InitiatorState.{InitiatorState}
-use Rattle.orb_list.specs.Lists.{ListState, drop_lists, unpin_lists, with_slots}
-use Rattle.initiator_base.specs.Quads.{with_quad}
-use Rattle.sbp_initiator.specs.Refusals.{ends_list}
-use Rattle.sbp_initiator.specs.States.{counts_for, is_list}
-use Rattle.initiator_base.specs.Places.{management_at}
-use Rattle.sbp_session.specs.Seats.{is_stuck_seat}
-use Rattle.sbp_initiator.specs.Effects.{Turn, asked_quad, ask_quad, conflict_for, conflict_step, doorbell_ended, drop_list_step, drop_where, dropped_as, enable_ended, end_own_for, end_own_step, end_step, ended_for, ended_step, fail_step, fault_number, finish_rom, good_end, good_event, good_word, is_address, is_conflict, known_step, known_where, managed_step, management_ended, moved, moves_session, next_quad, pointed_step, pointer_ended, quad_got, reset_ended, response_of, rom_ended, state_ended, state_told, stick_step, told, with_dead, with_rom, with_unit}
-use Rattle.sbp_world.specs.Hosts.Fits.{AreRows}
-use Rattle.sbp_world.specs.Hosts.Steps.{is_beside}
 use Rattle.sbp_world.proofs.Hosts.Beside.{beside_rests}
 use Rattle.sbp_world.proofs.Hosts.Told.{dropped_told, unpins}
-use Rattle.sbp_world.specs.Hosts.Calls.{behind, Listed, PinOf, Pins}
 use Rattle.sbp_world.proofs.Hosts.Listed.{tells, tells_beside}
 use Rattle.sbp_world.proofs.Hosts.Acts.{same_listed}
 use Rattle.sbp_world.proofs.Lists.LiveMoves.{drop_operation as dropped_by}

@@ -1,22 +1,9 @@
 -- The responses of a finished history carry what was read.
-use Rattle.std.proofs.Common.{◌≡◌, ◌<◌, refl, sym, ◌∙◌, ap, subst, ℕ, ◌+◌, true, List, [], ◌∷◌, ◌++◌, map, Some}
-use Rattle.std.specs.List.{AllByRecursion}
-use Rattle.std.proofs.lemmas.Bool.{false≢true}
-use Rattle.async_packet.specs.Packet.{Packet}
-use Rattle.bus_transactions.specs.May.{is_plain}
-use Rattle.bus_transactions.specs.Packets.{SerialsCount}
-use Rattle.sbp_journal.specs.Addresses.{Access}
-use Rattle.sbp_journal.specs.Run.{Moment, said}
-use Rattle.sbp_journal.specs.Wire.{terms}
-use Rattle.sbp_journal.specs.declared.note.Note.{Note}
+use Rattle.sbp_world.proofs.Words.Std.{◌≡◌, ◌<◌, refl, sym, ◌∙◌, ap, subst, ℕ, ◌+◌, true, List, [], ◌∷◌, ◌++◌, map, Some, AllByRecursion, false≢true}
+use Rattle.sbp_world.proofs.Words.Wire.{Packet, is_plain, SerialsCount, Access, Moment, said, terms, Note}
+use Rattle.sbp_world.proofs.Words.Laws.{Orb, prepared_in, host_reply}
+use Rattle.sbp_world.proofs.Words.World.{history_of, Run, IsDelivered, FinishedLaw, GoesOnWith, IsRun}
 use Rattle.sbp_journal.specs.declared.note.Note.TheVariants as notes
-use Rattle.sbp_laws.specs.Lists.{Orb, prepared_in}
-use Rattle.sbp_laws.specs.Served.{host_reply}
-use Rattle.sbp_world.specs.Histories.{history_of}
-use Rattle.sbp_world.specs.Runs.{Run}
-use Rattle.sbp_world.specs.Hosts.Deliveries.{IsDelivered}
-use Rattle.sbp_world.specs.Hosts.Finished.{FinishedLaw, GoesOnWith}
-use Rattle.sbp_world.specs.Hosts.Runs.{IsRun}
 use Rattle.sbp_world.proofs.Hosts.Deliveries.{deliveries_law}
 use Rattle.sbp_world.proofs.Hosts.GotServed.{IsAsked, was_got}
 use Rattle.sbp_world.proofs.Hosts.Remaining.{gets_same, remaining_law, serials}

@@ -1,12 +1,9 @@
 -- The addresses of a buffer that is laid out for a command rise: no two of its bytes stand at one place.
-use Rattle.std.proofs.Common.{arith, ℕ, zero, suc, ◌+◌, ◌<◌, ◌≤◌, ◌==◌, Bool, true, false, cond, List, [], ◌∷◌, ◌++◌}
-use Rattle.bus_memory.specs.Windows.{start}
+use Rattle.sbp_world.proofs.Words.Std.{arith, ℕ, zero, suc, ◌+◌, ◌<◌, ◌≤◌, ◌==◌, Bool, true, false, cond, List, [], ◌∷◌, ◌++◌, AllByRecursion}
+use Rattle.sbp_world.proofs.Words.Wire.{Cmd}
+use Rattle.sbp_world.proofs.Words.Initiator.{start, behind, addresses, buffer_addresses, single}
+use Rattle.sbp_world.proofs.Words.Laws.{laid_out, placed}
 use Rattle.bus_memory.specs.declared.window.Window.TheVariants as windows
-use Rattle.orb_list.specs.Layout.{behind}
-use Rattle.page_table.specs.Buffer.{addresses, buffer_addresses, single}
-use Rattle.sbp_journal.specs.declared.event.Cmd.{Cmd}
-use Rattle.sbp_laws.specs.CarriedBytes.{laid_out, placed}
-use Rattle.std.specs.List.{AllByRecursion}
 
 -- numbers that rise, each from another one on
 abbrev pub Rising : ℕ → List ℕ → Type 0

@@ -1,18 +1,13 @@
 -- In every run the answer of a good status is the bytes of the writes to the pieces of its buffer, where these came in turn.
-use Rattle.std.proofs.Common.{◌≡◌, refl, sym, ◌∙◌, ap, subst, ℕ, ◌+◌, ◌^◌, Bool, true, false, cond, List, [], map, Some}
+use Rattle.sbp_world.proofs.Words.Std.{◌≡◌, refl, sym, ◌∙◌, ap, subst, ℕ, ◌+◌, ◌^◌, Bool, true, false, cond, List, [], map, Some, append-nil}
+use Rattle.sbp_world.proofs.Words.Wire.{Moment, Cmd}
+use Rattle.sbp_world.proofs.Words.Initiator.{start, buffer_addresses, chunk_addresses}
+use Rattle.sbp_world.proofs.Words.Laws.{joined, laid_out, pieces_of, writes_since, command_at, slot_at}
+use Rattle.sbp_world.proofs.Words.World.{answer_held, byte_held, AreInTurn, AreOfTarget, GatheredLaw, IsGathered, bytes_of, written_of}
 use Rattle.std.specs.Prelude.{IsSomeAnd}
-use Rattle.std.proofs.lemmas.List.{append-nil}
-use Rattle.bus_memory.specs.Windows.{start}
 use Rattle.bus_memory.specs.declared.window.Window.TheVariants as windows
-use Rattle.page_table.specs.Buffer.{buffer_addresses, chunk_addresses}
 use Rattle.page_table.proofs.Chunks.{chunks_join}
-use Rattle.sbp_journal.specs.Run.{Moment}
-use Rattle.sbp_journal.specs.declared.event.Cmd.{Cmd}
-use Rattle.sbp_laws.specs.CarriedBytes.{joined, laid_out, pieces_of, writes_since}
-use Rattle.sbp_laws.specs.Lists.{command_at, slot_at}
-use Rattle.sbp_world.specs.Hosts.Answers.{IsAnswerOf, answer_held}
-use Rattle.sbp_world.specs.Hosts.Bytes.{byte_held}
-use Rattle.sbp_world.specs.Hosts.Gathered.{AreInTurn, AreOfTarget, GatheredLaw, IsGathered, bytes_of, written_of}
+use Rattle.sbp_world.specs.Hosts.Answers.{IsAnswerOf}
 use Rattle.sbp_world.proofs.Hosts.AnswerRuns.{taken_law}
 use Rattle.sbp_world.proofs.Hosts.GatherPlaces.{rising_laid}
 use Rattle.sbp_world.proofs.Hosts.Gathers.{spread, spread_pieces, written_stand}

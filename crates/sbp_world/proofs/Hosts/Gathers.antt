@@ -1,20 +1,12 @@
 -- The bytes that stand at the addresses of writes that came in turn are those of the writes, joined.
-use Rattle.std.proofs.Common.{arith, ◌≡◌, refl, sym, ◌∙◌, ap, subst, ℕ, ◌+◌, ◌-◌, ◌<◌, ◌≤◌, ◌==◌, nat_le, nat_lt, ◌&&◌, ◌||◌, Bool, true, false, cond, List, [], ◌∷◌, ◌++◌, length, map, slice_index_or, Option, Some, None}
-use Rattle.std.proofs.lemmas.Bool.Decides.{nat_tests}
-use Rattle.std.proofs.lemmas.Grind.{flat_map-append}
-use Rattle.std.proofs.lemmas.List.{append-nil, append_assoc, ext_get_or, get_or-map, length-map, map-append}
-use Rattle.std.specs.List.{AllByRecursion, flat_map}
-use Rattle.async_packet.specs.Packet.{Packet, lock, lock_response, read_block, read_block_response, read_quadlet, read_quadlet_response, write_block, write_quadlet, write_response}
-use Rattle.page_table.specs.Buffer.{addresses, chunk_addresses}
-use Rattle.sbp_journal.specs.Run.{Moment, said}
-use Rattle.sbp_journal.specs.Wire.{terms}
+use Rattle.sbp_world.proofs.Words.Std.{arith, ◌≡◌, refl, sym, ◌∙◌, ap, subst, ℕ, ◌+◌, ◌-◌, ◌<◌, ◌≤◌, ◌==◌, nat_le, nat_lt, ◌&&◌, ◌||◌, Bool, true, false, cond, List, [], ◌∷◌, ◌++◌, length, map, Option, Some, None, nat_tests, flat_map-append, append-nil, ext_get_or, length-map, map-append, AllByRecursion, flat_map}
+use Rattle.sbp_world.proofs.Words.Wire.{Packet, lock, lock_response, read_block, read_block_response, read_quadlet, read_quadlet_response, write_block, write_quadlet, write_response, Moment, said, terms}
+use Rattle.sbp_world.proofs.Words.Initiator.{addresses, chunk_addresses}
+use Rattle.sbp_world.proofs.Words.Laws.{Moved, command_at, slot_at, packet_at, byte_of, data_at, or_byte}
+use Rattle.sbp_world.proofs.Words.World.{byte_brought, byte_from, byte_held, is_got_by, bytes_of, piece_of, touches, touching, write_in, written_at}
+use Rattle.std.proofs.Common.{slice_index_or}
+use Rattle.std.proofs.lemmas.List.{append_assoc, get_or-map}
 use Rattle.sbp_journal.specs.declared.note.Note.TheVariants as notes
-use Rattle.sbp_laws.specs.CarriedBytes.{Moved}
-use Rattle.sbp_laws.specs.Lists.{command_at, slot_at}
-use Rattle.sbp_laws.specs.Packets.{packet_at}
-use Rattle.sbp_laws.specs.Served.{byte_of, data_at, or_byte}
-use Rattle.sbp_world.specs.Hosts.Bytes.{byte_brought, byte_from, byte_held, is_got_by}
-use Rattle.sbp_world.specs.Hosts.Gathered.{bytes_of, piece_of, touches, touching, write_in, written_at}
 use Rattle.sbp_world.proofs.Hosts.BytePlaces.{address_at, addresses_length}
 use Rattle.sbp_world.proofs.Hosts.GatherPlaces.{Rising, in_front_of}
 

@@ -1,15 +1,8 @@
 -- A request that an initiator got is found to be one.
-use Rattle.std.proofs.Common.{◌≡◌, refl, ◌∙◌, ap, subst, ℕ, List, Some, None, Ok}
-use Rattle.async_packet.specs.Packet.{Packet, lock, read_block, read_block_response, read_quadlet, read_quadlet_response, lock_response, write_block, write_quadlet, write_response}
-use Rattle.async_packet.specs.Reading.{reading}
-use Rattle.label_table.specs.Judging.{Row, by_again, by_generation, by_grammar, by_label, by_request, by_response, row_of}
-use Rattle.label_table.specs.Layer.{closed_by, facts_of, judged_by, judging_step, of_request, responded}
-use Rattle.label_table.specs.Requests.{reply_kind}
-use Rattle.sbp_journal.specs.Addresses.{Access, access_of}
-use Rattle.sbp_journal.specs.Outgoings.{empty_outbox}
+use Rattle.sbp_world.proofs.Words.Std.{◌≡◌, refl, ◌∙◌, ap, subst, ℕ, List, Some, None, Ok}
+use Rattle.sbp_world.proofs.Words.Wire.{Packet, lock, read_block, read_block_response, read_quadlet, read_quadlet_response, lock_response, write_block, write_quadlet, write_response, reading, Row, by_again, by_generation, by_grammar, by_label, by_request, by_response, row_of, closed_by, facts_of, judged_by, judging_step, of_request, responded, reply_kind, Access, access_of, empty_outbox}
+use Rattle.sbp_world.proofs.Words.Initiator.{InitiatorState, receive_step, received}
 use Rattle.sbp_journal.specs.declared.cause.Judged.TheVariants as judgements
-use Rattle.sbp_initiator.specs.declared.state.InitiatorState.{InitiatorState}
-use Rattle.sbp_initiator.specs.Receiving.{receive_step, received}
 use Rattle.sbp_world.proofs.Hosts.Answering.{none_is}
 use Rattle.sbp_world.proofs.Hosts.AnsweringBlocks.{not_got}
 

@@ -1,26 +1,11 @@
 -- Where an initiator got a request, the history goes on with the response.
-use Rattle.std.proofs.Common.{◌≡◌, refl, sym, ◌∙◌, ap, subst, ℕ, suc, ◌<◌, Bool, List, [], ◌∷◌, ◌++◌, map, Option, Some, append_assoc}
-use Rattle.std.proofs.lemmas.Option.{same_Some}
-use Rattle.async_packet.specs.Packet.{Packet}
-use Rattle.async_packet.specs.Reading.{reading}
-use Rattle.bus_transactions.specs.Wire.{as_sending}
-use Rattle.rbc_disk.specs.Runs.{Told}
-use Rattle.sbp_journal.specs.Addresses.{Access, access_of}
-use Rattle.sbp_journal.specs.Run.{Moment, asked, said}
-use Rattle.sbp_journal.specs.Transactions.{Sending}
-use Rattle.sbp_journal.specs.Wire.{terms}
-use Rattle.sbp_journal.specs.declared.event.Event.{Event}
+use Rattle.sbp_world.proofs.Words.Std.{◌≡◌, refl, sym, ◌∙◌, ap, subst, ℕ, suc, ◌<◌, Bool, List, [], ◌∷◌, ◌++◌, map, Option, Some, append_assoc, same_Some}
+use Rattle.sbp_world.proofs.Words.Wire.{Packet, reading, as_sending, Access, access_of, Moment, asked, said, Sending, terms, Event, Note}
+use Rattle.sbp_world.proofs.Words.Target.{Told}
+use Rattle.sbp_world.proofs.Words.Laws.{packet_in, receiver_in}
+use Rattle.sbp_world.proofs.Words.World.{delivered, history_of, Run, after, beginning, MayAll, Scene, begun, initiator_at, IsDelivering, IsDelivered, front_of, IsRun}
 use Rattle.sbp_journal.specs.declared.event.Event.TheVariants as events
-use Rattle.sbp_journal.specs.declared.note.Note.{Note}
-use Rattle.sbp_laws.specs.Packets.{packet_in, receiver_in}
-use Rattle.sbp_world.specs.Delivering.{delivered}
-use Rattle.sbp_world.specs.Histories.{history_of}
-use Rattle.sbp_world.specs.Runs.{Run, after, beginning}
-use Rattle.sbp_world.specs.Settling.{MayAll}
-use Rattle.sbp_world.specs.Worlds.{Scene, begun, initiator_at}
-use Rattle.sbp_world.specs.Hosts.Answering.{IsDelivering}
-use Rattle.sbp_world.specs.Hosts.Deliveries.{IsDelivered, WasGot, front_of}
-use Rattle.sbp_world.specs.Hosts.Runs.{IsRun}
+use Rattle.sbp_world.specs.Hosts.Deliveries.{WasGot}
 use Rattle.sbp_world.proofs.Hosts.AnsweringLines.{run_answers}
 use Rattle.sbp_world.proofs.Hosts.AnsweringSends.{Gets}
 use Rattle.sbp_world.proofs.Hosts.Between.{between, stands_there, there}

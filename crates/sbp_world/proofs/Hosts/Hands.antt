@@ -1,34 +1,13 @@
 -- What a node hands out, behind a history.
-use Rattle.std.proofs.Common.{◌≡◌, refl, ◌∙◌, ap, ℕ, ◌+◌, false, List, [], ◌∷◌, ◌++◌, map, Option, Some, None}
-use Rattle.async_packet.specs.Labels.{LabelParts}
-use Rattle.orb_list.specs.Table.{SlotTable}
-use Rattle.packet_store.specs.declared.sent.Sent.{Sent}
-use Rattle.rbc_disk.specs.Held.{Held}
-use Rattle.rbc_disk.specs.Runs.{Told}
-use Rattle.sbp_journal.specs.Run.{Moment, said}
-use Rattle.sbp_journal.specs.Outgoings.{empty_outbox}
-use Rattle.sbp_journal.specs.declared.cause.Judged.{Judged}
-use Rattle.sbp_journal.specs.declared.outbox.Outgoing.{Outgoing}
-use Rattle.sbp_journal.specs.declared.note.Note.{Note}
+use Rattle.sbp_world.proofs.Words.Std.{◌≡◌, refl, ◌∙◌, ap, ℕ, ◌+◌, false, List, [], ◌∷◌, ◌++◌, map, Option, Some, None}
+use Rattle.sbp_world.proofs.Words.Wire.{LabelParts, Sent, Moment, said, empty_outbox, Judged, Outgoing, Note, Side, node_of, topology_at, list_in, orb_in, check_of, function_word, login_if}
+use Rattle.sbp_world.proofs.Words.Target.{Held, Told, NodeState, scene, received, Whole}
+use Rattle.sbp_world.proofs.Words.Initiator.{SlotTable}
+use Rattle.sbp_world.proofs.Words.Laws.{event_of}
+use Rattle.sbp_world.proofs.Words.World.{MayTell, faults_after, left_target, target_received, whole_of, target_sees, target_ticks, asked, posted, sent, sent_all, sent_to, holder, initiator_of, ticket_of, told, told_all, WorldState, behind, AreRows, AreNotes, AreOthers, HandLaw, IsNote, IsOther, history, IsNoAbort}
 use Rattle.sbp_journal.specs.declared.note.Note.TheVariants as notes
-use Rattle.sbp_journal.specs.declared.side.Side.{Side}
 use Rattle.sbp_journal.specs.declared.side.Side.TheVariants as sides
-use Rattle.sbp_laws.specs.Turns.{event_of}
-use Rattle.sbp_target.specs.Nodes.{NodeState, scene}
-use Rattle.sbp_target.specs.Receiving.{received}
-use Rattle.sbp_target.specs.Replies.{Whole}
-use Rattle.sbp_world.specs.Delivering.{MayTell, faults_after, left_target, target_received, whole_of}
-use Rattle.sbp_bus.specs.Generations.{node_of, topology_at}
-use Rattle.sbp_world.specs.Nodes.{target_sees, target_ticks}
-use Rattle.sbp_world.specs.Sending.{asked, posted, sent, sent_all, sent_to}
-use Rattle.sbp_bus.specs.Telling.{list_in, orb_in}
-use Rattle.sbp_world.specs.Telling.{holder, initiator_of, ticket_of, told, told_all}
-use Rattle.sbp_bus.specs.Words.{check_of, function_word, login_if}
-use Rattle.sbp_world.specs.Worlds.{WorldState}
-use Rattle.sbp_world.specs.Hosts.Calls.{behind, by_side}
-use Rattle.sbp_world.specs.Hosts.Fits.{AreRows}
-use Rattle.sbp_world.specs.Hosts.Handing.{AreNotes, AreOthers, HandLaw, IsNote, IsOther, history}
-use Rattle.sbp_world.specs.Hosts.Steps.{IsNoAbort}
+use Rattle.sbp_world.specs.Hosts.Calls.{by_side}
 use Rattle.sbp_world.proofs.Hosts.Beside.{beside_rests, sent_rests}
 use Rattle.sbp_world.proofs.Hosts.Mild.{FromTarget}
 use Rattle.sbp_world.proofs.Hosts.TargetGives as target

@@ -1,43 +1,17 @@
 -- A packet that comes to an initiator, and a request whose time runs out.
-use Rattle.std.proofs.Common.{not, ◌≡◌, refl, sym, ◌∙◌, ap, subst, ℕ, ◌&&◌, Bool, true, false, cond, List, [], ◌∷◌, ◌++◌, Option, Some, None, Result, Ok, Err}
-use Rattle.byteorder.specs.Endian.{big_bytes}
-use Rattle.async_packet.specs.Labels.{LabelParts}
-use Rattle.async_packet.specs.Packet.{Packet, header_in, write_quadlet, write_block, read_quadlet, read_block, write_response, read_quadlet_response, read_block_response, lock, lock_response}
-use Rattle.label_table.specs.declared.reply.Stale.{Stale}
-use Rattle.label_table.specs.Layer.{Layer, Finding, of_generation, of_grammar, of_label, of_response, of_again, of_request, answering_step, expiring_step, judging_step}
-use Rattle.media_bay.specs.Unsolicited.{is_block}
-use Rattle.orb_layout.specs.declared.fault.OrbFault.{OrbFault}
-use Rattle.orb_layout.specs.declared.status.StatusBlock.{StatusBlock}
-use Rattle.orb_layout.specs.declared.status.StatusKind.{StatusKind}
+use Rattle.sbp_world.proofs.Words.Std.{not, ◌≡◌, refl, sym, ◌∙◌, ap, subst, ℕ, ◌&&◌, Bool, true, false, cond, List, [], ◌∷◌, ◌++◌, Option, Some, None, Result, Ok, Err, big_bytes}
+use Rattle.sbp_world.proofs.Words.Wire.{LabelParts, Packet, header_in, write_quadlet, write_block, read_quadlet, read_block, write_response, read_quadlet_response, read_block_response, lock, lock_response, Stale, Layer, Finding, of_generation, of_grammar, of_label, of_response, of_again, of_request, answering_step, expiring_step, judging_step, Moment, said, OutboxState, Cause, Judged}
+use Rattle.sbp_world.proofs.Words.Target.{is_block}
+use Rattle.sbp_world.proofs.Words.Initiator.{OrbFault, StatusBlock, StatusKind, ListFault, TicketParts, SlotTable, slot_in, waiting, Memory, slot_of, Fifo, Purpose, Running, InitiatorState, stepped, take_lists, write_lists, ending_of, is_present_orb, status_in, Turn, told, with_dead, is_dead_kind, addressed, answer_of, block_at, block_by, block_step, called, expire_step, expired_as, fifo_of, got_step, ignored_step, is_foreign, managed_for, present_for, quadlet_at, read_as, receive_step, received, request_step, respond_step, responded_as, serve_step, status_step, taken_as, taken_by, written_as}
+use Rattle.sbp_world.proofs.Words.World.{AreRows, MayTake, behind, Listed, MayBlock, MayFind, MayPacket, Pins}
 use Rattle.orb_layout.specs.declared.status.StatusKind.TheVariants as kinds
-use Rattle.orb_list.specs.declared.fault.ListFault.{ListFault}
-use Rattle.orb_list.specs.Tickets.{TicketParts}
 use Rattle.orb_list.specs.Table as table
-use Rattle.orb_list.specs.Table.{SlotTable, slot_in, waiting}
-use Rattle.bus_memory.specs.Memory.{Memory}
-use Rattle.bus_memory.specs.Windows.{slot_of}
-use Rattle.sbp_journal.specs.Run.{Moment, said}
-use Rattle.sbp_journal.specs.Outgoings.{OutboxState}
-use Rattle.sbp_journal.specs.declared.cause.Cause.{Cause}
 use Rattle.sbp_journal.specs.declared.cause.Cause.TheVariants as causes
-use Rattle.sbp_journal.specs.declared.cause.Judged.{Judged}
 use Rattle.sbp_journal.specs.declared.note.Note.TheVariants as notes
 use Rattle.sbp_journal.specs.declared.side.Side.TheVariants as sides
-use Rattle.initiator_base.specs.declared.fifos.Fifo.{Fifo}
 use Rattle.initiator_base.specs.declared.fifos.Fifo.TheVariants as fifos
 use Rattle.sbp_initiator.specs.declared.purpose.Ending.TheVariants as endings
-use Rattle.sbp_initiator.specs.declared.purpose.Purpose.{Purpose}
-use Rattle.sbp_initiator.specs.declared.purpose.Running.{Running}
-use Rattle.sbp_initiator.specs.declared.state.InitiatorState.{InitiatorState}
-use Rattle.orb_list.specs.Lists.{stepped, take_lists, write_lists}
-use Rattle.sbp_initiator.specs.States.{ending_of, is_present_orb, status_in}
-use Rattle.sbp_initiator.specs.Effects.{Turn, told, with_dead}
-use Rattle.initiator_base.specs.Fifos.{is_dead_kind}
-use Rattle.sbp_initiator.specs.Receiving.{addressed, answer_of, block_at, block_by, block_step, called, expire_step, expired_as, fifo_of, got_step, ignored_step, is_foreign, managed_for, present_for, quadlet_at, read_as, receive_step, received, request_step, respond_step, responded_as, serve_step, status_step, taken_as, taken_by, written_as}
-use Rattle.sbp_world.specs.Hosts.Fits.{AreRows}
-use Rattle.sbp_world.specs.Hosts.Steps.{MayTake}
 use Rattle.sbp_world.proofs.Hosts.Told.{taken_told}
-use Rattle.sbp_world.specs.Hosts.Calls.{behind, Listed, MayBlock, MayFind, MayPacket, Pins}
 use Rattle.sbp_world.proofs.Hosts.Listed.{tells, tells_beside}
 use Rattle.sbp_world.proofs.Hosts.Ends.{still, still_if, notes_it, managed_listed, for_listed}
 

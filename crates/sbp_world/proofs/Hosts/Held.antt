@@ -1,15 +1,9 @@
 -- What each note of the wire leaves of the labels of a requester, and of the generation that a node is in.
-use Rattle.std.proofs.Common.{arith, ◌≡◌, refl, sym, ◌∙◌, ap, ℕ, ◌+◌, nat_eq, Bool, true, false, cond, Option, Some, None}
-use Rattle.std.proofs.lemmas.Bool.Decides.{nat_tests}
-use Rattle.sbp_base.specs.Update.{upd}
-use Rattle.async_packet.specs.Fields.{rcode_of}
-use Rattle.bus_transactions.specs.Rows.{awaits, shape_of}
+use Rattle.sbp_world.proofs.Words.Std.{arith, ◌≡◌, refl, sym, ◌∙◌, ap, ℕ, ◌+◌, nat_eq, Bool, true, false, cond, Option, Some, None, nat_tests, upd}
+use Rattle.sbp_world.proofs.Words.Wire.{rcode_of, awaits, shape_of, ReplyKind, Kind, Part, Sending, Transaction, asked_by, begun_by, between, is_same, part_of, request, response, Held, Owed, Terms, arrives, asked_in, begins, begun_in, closes, closes_if, free, gets, gets_as, gives, ignores, ignores_that, is_news, is_served, judges, judges_if, kind_in, pays, puts, rests, sends, times_out, waits, Cause}
 use Rattle.bus_transactions.proofs.Facts.{asked_is, begun_asked}
 use Rattle.bus_transactions.proofs.PacketParts.{other_requester, same_refl}
-use Rattle.label_table.specs.declared.reply.ReplyKind.{ReplyKind}
-use Rattle.sbp_journal.specs.Transactions.{Kind, Part, Sending, Transaction, asked_by, begun_by, between, is_same, no_packet, part_of, request, response}
-use Rattle.sbp_journal.specs.Wire.{Held, Owed, Terms, arrives, asked_in, begins, begun_in, closes, closes_if, free, gets, gets_as, gives, ignores, ignores_that, is_news, is_served, judges, judges_if, kind_in, pays, puts, rests, sends, times_out, waits}
-use Rattle.sbp_journal.specs.declared.cause.Cause.{Cause}
+use Rattle.sbp_journal.specs.Transactions.{no_packet}
 use Rattle.sbp_journal.specs.declared.cause.Cause.TheVariants as causes
 use Rattle.sbp_world.proofs.Common.{untrue, none_is, turned}
 

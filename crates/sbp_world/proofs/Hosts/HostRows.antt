@@ -1,43 +1,16 @@
 -- The rows of an initiator's slots, for a statement that lines carry on.
-use Rattle.std.proofs.Common.{◌≡◌, refl, sym, ◌∙◌, ap, subst, ℕ, suc, ◌==◌, not, false, true, List, [], ◌∷◌, Option, Some, None, Ok}
-use Rattle.async_packet.specs.Labels.{LabelParts}
-use Rattle.async_packet.specs.Packet.{Packet, lock, lock_response, read_block, read_block_response, read_quadlet, read_quadlet_response, write_block, write_quadlet, write_response}
-use Rattle.async_packet.specs.Reading.{reading}
-use Rattle.initiator_base.specs.Places.{names_place}
-use Rattle.sbp_initiator.specs.Histories.Laws.{acts, lets_expire, receives, sees}
-use Rattle.label_table.specs.Layer.{Finding, judging_step, of_again, of_generation, of_grammar, of_label, of_request, of_response, seeing_step}
-use Rattle.orb_layout.specs.StatusBlocks.{src_of}
-use Rattle.orb_layout.specs.declared.status.StatusBlock.{StatusBlock}
+use Rattle.sbp_world.proofs.Words.Std.{◌≡◌, refl, sym, ◌∙◌, ap, subst, ℕ, suc, ◌==◌, not, false, true, List, [], ◌∷◌, Option, Some, None, Ok}
+use Rattle.sbp_world.proofs.Words.Wire.{LabelParts, Packet, lock, lock_response, read_block, read_block_response, read_quadlet, read_quadlet_response, write_block, write_quadlet, write_response, reading, Finding, judging_step, of_again, of_generation, of_grammar, of_label, of_request, of_response, seeing_step, judged_note, OutboxState, empty_outbox, Moment, said, Sending, terms, Action, Event, Note, Outgoing, Side}
+use Rattle.sbp_world.proofs.Words.Initiator.{names_place, acts, lets_expire, receives, sees, src_of, StatusBlock, act_step, Turn, expire_step, receive_step, see_step, status_in, Purpose, InitiatorState}
+use Rattle.sbp_world.proofs.Words.Laws.{src_in, access_in, packet_in, spelled_by, event_of}
+use Rattle.sbp_world.proofs.Words.World.{Listed, MayFind, MayPacket, Pinned, behind, AreRows, IsNoAbort, MayTake, is_beside, IsHost}
 use Rattle.orb_list.specs.Table as table
-use Rattle.sbp_bus.specs.Packets.{judged_note}
-use Rattle.sbp_initiator.specs.Acting.{act_step}
-use Rattle.sbp_initiator.specs.Effects.{Turn}
-use Rattle.sbp_initiator.specs.Receiving.{expire_step, receive_step}
-use Rattle.sbp_initiator.specs.Seeing.{see_step}
-use Rattle.sbp_initiator.specs.States.{status_in}
-use Rattle.sbp_initiator.specs.declared.purpose.Purpose.{Purpose}
-use Rattle.sbp_initiator.specs.declared.state.InitiatorState.{InitiatorState}
-use Rattle.sbp_journal.specs.Outgoings.{OutboxState, empty_outbox}
-use Rattle.sbp_journal.specs.Run.{Moment, said}
-use Rattle.sbp_journal.specs.Transactions.{Sending}
-use Rattle.sbp_journal.specs.Wire.{terms}
-use Rattle.sbp_journal.specs.declared.event.Action.{Action}
 use Rattle.sbp_journal.specs.declared.event.Action.TheVariants as actions
-use Rattle.sbp_journal.specs.declared.event.Event.{Event}
 use Rattle.sbp_journal.specs.declared.event.Event.TheVariants as events
-use Rattle.sbp_journal.specs.declared.note.Note.{Note}
 use Rattle.sbp_journal.specs.declared.note.Note.TheVariants as notes
 use Rattle.sbp_journal.specs.declared.operation.Operation.TheVariants as operations
-use Rattle.sbp_journal.specs.declared.outbox.Outgoing.{Outgoing}
-use Rattle.sbp_journal.specs.declared.side.Side.{Side}
 use Rattle.sbp_journal.specs.declared.side.Side.TheVariants as sides
-use Rattle.sbp_laws.specs.Lists.{src_in}
-use Rattle.sbp_laws.specs.Packets.{access_in, packet_in, spelled_by}
-use Rattle.sbp_laws.specs.Turns.{event_of}
-use Rattle.sbp_world.specs.Hosts.Calls.{Listed, MayFind, MayPacket, Pinned, behind, by_side}
-use Rattle.sbp_world.specs.Hosts.Fits.{AreRows}
-use Rattle.sbp_world.specs.Hosts.Steps.{IsNoAbort, MayTake, is_beside}
-use Rattle.sbp_world.specs.Hosts.Worlds.{IsHost}
+use Rattle.sbp_world.specs.Hosts.Calls.{by_side}
 use Rattle.sbp_world.proofs.Hosts.Aborts.{Requests, abort_requests}
 use Rattle.sbp_world.proofs.Hosts.Acts.{act_left}
 use Rattle.sbp_world.proofs.Hosts.Answering.{request_of}

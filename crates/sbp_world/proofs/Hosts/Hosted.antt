@@ -1,52 +1,22 @@
 -- In every run the core of each initiator's host is what it has.
-use Rattle.std.proofs.Common.{arith, ◌≡◌, refl, sym, ◌∙◌, ap, subst, ℕ, suc, ◌+◌, ◌<◌, ◌==◌, ◌&&◌, ◌||◌, nat_eq, nat_lt, not, is_none, is_some, Bool, true, false, cond, List, [], ◌∷◌, Option, Some, None, Result, Ok, Err}
-use Rattle.std.proofs.lemmas.Bool.Decides.{nat_tests}
-use Rattle.async_packet.specs.Labels.{LabelParts}
-use Rattle.label_table.specs.declared.reply.Stale.{Stale}
-use Rattle.label_table.specs.Layer.{Finding, Layer, expiring_step, judging_step, of_again, of_generation, of_grammar, of_label, of_request, of_response, seeing_step}
-use Rattle.sbp_journal.specs.Run.{Moment, asked, said}
-use Rattle.sbp_journal.specs.Rows.{Refusals, refusal_of}
-use Rattle.sbp_journal.specs.Wire.{Terms, terms}
-use Rattle.sbp_journal.specs.declared.operation.Operation.{Operation}
+use Rattle.sbp_world.proofs.Words.Std.{arith, ◌≡◌, refl, sym, ◌∙◌, ap, subst, ℕ, suc, ◌+◌, ◌<◌, ◌==◌, ◌&&◌, ◌||◌, nat_eq, nat_lt, not, is_some, Bool, true, false, cond, List, [], ◌∷◌, Option, Some, None, Result, Ok, Err, nat_tests}
+use Rattle.sbp_world.proofs.Words.Wire.{LabelParts, Stale, Finding, Layer, expiring_step, judging_step, of_again, of_generation, of_grammar, of_label, of_request, of_response, seeing_step, Moment, asked, said, Refusals, refusal_of, Terms, terms, Operation, OutboxState, empty_outbox, Action, Note, judged_note}
+use Rattle.sbp_world.proofs.Words.Initiator.{Seat, points, Purpose, Running, InitiatorState, IsAction, act_step, facts_with, Turn, new_state, expire_step, expired_as, receive_step, finds_label, refusal, rows_of, ends_list, fits_session, is_in_stuck, is_list_step, operation_of, see_step, operation_in, session_of, after, acts, lets_expire, receives, sees}
+use Rattle.sbp_world.proofs.Words.Laws.{refusal_at, refusals, cuts_list, is_pointing, is_right_state, is_waiting, running_operation, Host, Underway, begun, host_at, is_stuck, new_host, ready_host, event_of}
+use Rattle.sbp_world.proofs.Words.World.{history_of, Run, IsCalled, behind, DecidesBySession, Core, HasSession, HostLaw, host_core, operation_by, own_core, session_in, work_in, work_of, IsRun}
+use Rattle.std.proofs.Common.{is_none}
 use Rattle.sbp_journal.specs.declared.operation.Operation.TheVariants as operations
-use Rattle.sbp_journal.specs.Outgoings.{OutboxState, empty_outbox}
-use Rattle.sbp_journal.specs.declared.event.Action.{Action}
 use Rattle.sbp_journal.specs.declared.event.Action.TheVariants as actions
 use Rattle.sbp_journal.specs.declared.event.Event.TheVariants as events
-use Rattle.sbp_journal.specs.declared.note.Note.{Note}
 use Rattle.sbp_journal.specs.declared.note.Note.TheVariants as notes
-use Rattle.sbp_session.specs.declared.seat.Seat.{Seat}
 use Rattle.sbp_session.specs.declared.seat.Seat.TheVariants as seats
-use Rattle.sbp_session.specs.Seats.{points}
-use Rattle.sbp_initiator.specs.declared.purpose.Purpose.{Purpose}
 use Rattle.sbp_initiator.specs.declared.purpose.Purpose.TheVariants as purposes
-use Rattle.sbp_initiator.specs.declared.purpose.Running.{Running}
-use Rattle.sbp_initiator.specs.declared.state.InitiatorState.{InitiatorState}
-use Rattle.sbp_initiator.specs.Acting.{IsAction, act_step, facts_with}
-use Rattle.sbp_initiator.specs.Effects.{Turn}
-use Rattle.sbp_initiator.specs.Initiators.{new_state}
-use Rattle.sbp_initiator.specs.Receiving.{expire_step, expired_as, receive_step}
 use Rattle.sbp_initiator.proofs.FirstRow.{refusal_law}
-use Rattle.sbp_initiator.specs.Refusing.{finds_label}
-use Rattle.sbp_initiator.specs.Refusals.{refusal, rows_of, ends_list, fits_session, is_in_stuck, is_list_step, operation_of}
-use Rattle.sbp_initiator.specs.Seeing.{see_step}
-use Rattle.sbp_initiator.specs.States.{operation_in, session_of}
-use Rattle.sbp_initiator.specs.Histories.Laws.{after, acts, lets_expire, receives, sees}
 use Rattle.sbp_initiator.proofs.Histories.Effects.{Fits, HasMarks}
 use Rattle.sbp_initiator.proofs.Histories.Over.{counted_now, pointed_now, sound}
 use Rattle.sbp_initiator.proofs.Histories.Purposes.{IfFor, closes_asked, expires_asked}
 use Rattle.sbp_initiator.proofs.Histories.Runs.{FitsNow, WasPointed}
-use Rattle.sbp_bus.specs.Packets.{judged_note}
-use Rattle.sbp_laws.specs.Actions.{refusal_at, refusals, cuts_list, is_pointing, is_right_state, is_waiting, running_operation}
-use Rattle.sbp_laws.specs.Hosts.{Host, Underway, begun, host_at, is_stuck, new_host, ready_host}
-use Rattle.sbp_laws.specs.Turns.{event_of}
-use Rattle.sbp_world.specs.Histories.{history_of}
-use Rattle.sbp_world.specs.Runs.{Run}
-use Rattle.sbp_world.specs.Hosts.Calling.{IsCalled}
-use Rattle.sbp_world.specs.Hosts.Calls.{behind}
-use Rattle.sbp_world.specs.Hosts.Core.{DecidesBySession, Core, HasSession, HostLaw, host_core, operation_by, own_core, session_in, work_in, work_of}
 use Rattle.sbp_world.specs.Hosts.Refusing.{initiator_of}
-use Rattle.sbp_world.specs.Hosts.Runs.{IsRun}
 use Rattle.sbp_world.proofs.Hosts.Calling.{IsOwn, own_first, own_on}
 use Rattle.sbp_world.proofs.Hosts.Carried.{between_runs, of_runs}
 use Rattle.sbp_world.proofs.Hosts.Carries.{Carries, Does, Nothing, Tells}

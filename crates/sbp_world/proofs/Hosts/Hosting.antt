@@ -1,30 +1,13 @@
 -- The lists of every initiator of a world.
-use Rattle.std.proofs.Common.{arith, ◌≡◌, refl, sym, ◌∙◌, ap, subst, ℕ, ◌+◌, ◌<◌, ◌==◌, nat_eq, Bool, true, false, List, [], ◌∷◌, length, get_or, slice_set, Option, Some, None}
-use Rattle.std.proofs.lemmas.Bool.Decides.{nat_tests}
-use Rattle.std.proofs.lemmas.Grind.{common_steps}
+use Rattle.sbp_world.proofs.Words.Std.{arith, ◌≡◌, refl, sym, ◌∙◌, ap, subst, ℕ, ◌+◌, ◌<◌, ◌==◌, nat_eq, Bool, true, false, List, [], ◌∷◌, length, get_or, Option, Some, None, nat_tests, common_steps}
+use Rattle.sbp_world.proofs.Words.Wire.{LabelParts, Moment, OutboxState, Outgoing, Note, Side, node_of}
+use Rattle.sbp_world.proofs.Words.Target.{NodeState}
+use Rattle.sbp_world.proofs.Words.Initiator.{InitiatorState, new_state, Turn}
+use Rattle.sbp_world.proofs.Words.Laws.{event_of}
+use Rattle.sbp_world.proofs.Words.World.{handed_out, asked, posted, sent, sent_all, sent_to, told, told_all, WorldState, initiator_at, with_initiator, with_note, with_target, behind, Listed, AreRows, AreNotes, AreOthers, history, IsNoAbort, is_beside, AreBut, AreHosts, IsHost, NoneAborts, WorldLaw}
+use Rattle.std.proofs.Common.{slice_set}
 use Rattle.std.proofs.lemmas.List.{length-set}
-use Rattle.async_packet.specs.Labels.{LabelParts}
-use Rattle.sbp_journal.specs.Run.{Moment}
-use Rattle.sbp_journal.specs.Outgoings.{OutboxState}
-use Rattle.sbp_journal.specs.declared.outbox.Outgoing.{Outgoing}
-use Rattle.sbp_journal.specs.declared.note.Note.{Note}
-use Rattle.sbp_journal.specs.declared.side.Side.{Side}
 use Rattle.sbp_journal.specs.declared.side.Side.TheVariants as sides
-use Rattle.sbp_initiator.specs.declared.state.InitiatorState.{InitiatorState}
-use Rattle.sbp_initiator.specs.Initiators.{new_state}
-use Rattle.sbp_initiator.specs.Effects.{Turn}
-use Rattle.sbp_laws.specs.Turns.{event_of}
-use Rattle.sbp_target.specs.Nodes.{NodeState}
-use Rattle.sbp_bus.specs.Generations.{node_of}
-use Rattle.sbp_world.specs.Handing.{handed_out}
-use Rattle.sbp_world.specs.Sending.{asked, posted, sent, sent_all, sent_to}
-use Rattle.sbp_world.specs.Telling.{told, told_all}
-use Rattle.sbp_world.specs.Worlds.{WorldState, initiator_at, with_initiator, with_note, with_target}
-use Rattle.sbp_world.specs.Hosts.Calls.{behind, Listed}
-use Rattle.sbp_world.specs.Hosts.Fits.{AreRows}
-use Rattle.sbp_world.specs.Hosts.Handing.{AreNotes, AreOthers, history}
-use Rattle.sbp_world.specs.Hosts.Steps.{IsNoAbort, is_beside}
-use Rattle.sbp_world.specs.Hosts.Worlds.{AreBut, AreHosts, IsHost, NoneAborts, WorldLaw}
 use Rattle.sbp_world.proofs.Hosts.Beside.{beside_rests}
 use Rattle.sbp_world.proofs.Hosts.Hands.{all_others, all_own, all_still, line_stays}
 

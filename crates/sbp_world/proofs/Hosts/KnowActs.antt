@@ -1,42 +1,17 @@
 -- An action that is done, and the core of the initiator's host.
-use Rattle.std.proofs.Common.{◌≡◌, refl, sym, ◌∙◌, ap, subst, ℕ, suc, ◌+◌, ◌==◌, ◌||◌, not, nat_eq, Bool, true, false, cond, List, [], ◌∷◌, ◌++◌, Option, Some, None}
-use Rattle.label_table.specs.declared.judgement.Asked.{Asked}
-use Rattle.label_table.specs.Layer.{Layer}
-use Rattle.orb_list.specs.declared.list.PresentList.{PresentList}
-use Rattle.orb_list.specs.Lists.{ListState, dummy_lists, high_lists, low_lists}
-use Rattle.orb_list.specs.Table.{find_in, list_number, may_prepare}
-use Rattle.orb_list.specs.Tickets.{TicketParts}
-use Rattle.sbp_journal.specs.Run.{Moment, said}
-use Rattle.sbp_journal.specs.Wire.{Terms, terms}
-use Rattle.sbp_journal.specs.Outgoings.{OutboxState, empty_outbox}
-use Rattle.sbp_journal.specs.Buffers.{buffer_of}
-use Rattle.sbp_journal.specs.declared.event.Action.{Action}
+use Rattle.sbp_world.proofs.Words.Std.{◌≡◌, refl, sym, ◌∙◌, ap, subst, ℕ, suc, ◌+◌, ◌==◌, ◌||◌, not, nat_eq, Bool, true, false, cond, List, [], ◌∷◌, ◌++◌, Option, Some, None}
+use Rattle.sbp_world.proofs.Words.Wire.{Asked, Layer, Moment, said, Terms, terms, OutboxState, empty_outbox, buffer_of, Action, Cmd, NoteBuffer, Outgoing}
+use Rattle.sbp_world.proofs.Words.Initiator.{PresentList, ListState, dummy_lists, high_lists, low_lists, find_in, list_number, may_prepare, TicketParts, Seat, goes, pointing, sent, points, Demand, Purpose, InitiatorState, act_step, append_step, asked_as, asked_for, counted, demand_of, demanded_as, done_step, dummy_for, facts_with, judged_as, link_as, link_step, login_id, low_as, low_step, managed_by, orb_by, pinned_for, put_as, put_step, ring_for, with_running, put_lists, Turn, told, is_in_held, is_in_live, is_in_out, refusal, is_list, is_unwritten, last_linked, no_marks, place_of, session_of}
+use Rattle.sbp_world.proofs.Words.Laws.{event_of, Session, host_at, operation_of}
+use Rattle.sbp_world.proofs.Words.World.{behind, Core, host_core, operation_by, own_core, session_in}
 use Rattle.sbp_journal.specs.declared.event.Action.TheVariants as actions
-use Rattle.sbp_journal.specs.declared.event.Cmd.{Cmd}
 use Rattle.sbp_journal.specs.declared.event.Event.TheVariants as events
 use Rattle.sbp_journal.specs.declared.note.Note.TheVariants as notes
-use Rattle.sbp_journal.specs.declared.note.NoteBuffer.{NoteBuffer}
 use Rattle.sbp_journal.specs.declared.operation.Operation.TheVariants as operations
-use Rattle.sbp_journal.specs.declared.outbox.Outgoing.{Outgoing}
-use Rattle.sbp_session.specs.declared.seat.Seat.{Seat}
 use Rattle.sbp_session.specs.declared.seat.Seat.TheVariants as seats
-use Rattle.sbp_session.specs.Moves.{goes, pointing, sent}
-use Rattle.sbp_session.specs.Seats.{points}
-use Rattle.sbp_initiator.specs.declared.purpose.Demand.{Demand}
 use Rattle.sbp_initiator.specs.declared.purpose.Pointing.TheVariants as pointings
-use Rattle.sbp_initiator.specs.declared.purpose.Purpose.{Purpose}
-use Rattle.sbp_initiator.specs.declared.state.InitiatorState.{InitiatorState}
-use Rattle.sbp_initiator.specs.Acting.{act_step, append_step, asked_as, asked_for, counted, demand_of, demanded_as, done_step, dummy_for, facts_with, judged_as, link_as, link_step, login_id, low_as, low_step, managed_by, orb_by, pinned_for, put_as, put_step, ring_for, with_running}
-use Rattle.sbp_initiator.specs.Commands.{put_lists}
-use Rattle.sbp_initiator.specs.Effects.{Turn, told}
-use Rattle.sbp_initiator.specs.Refusals.{is_in_held, is_in_live, is_in_out, refusal}
-use Rattle.sbp_initiator.specs.States.{is_list, is_unwritten, last_linked, no_marks, place_of, session_of}
 use Rattle.sbp_initiator.proofs.Histories.Actions.{append_named, is_ok, present_named}
-use Rattle.sbp_laws.specs.Turns.{event_of}
-use Rattle.sbp_laws.specs.Hosts.{Session, host_at, operation_of}
 use Rattle.sbp_laws.specs.Hosts as hosts
-use Rattle.sbp_world.specs.Hosts.Calls.{behind}
-use Rattle.sbp_world.specs.Hosts.Core.{Core, host_core, operation_by, own_core, session_in}
 use Rattle.sbp_world.proofs.Hosts.Acts.{Goes, goes_on}
 use Rattle.sbp_world.proofs.Hosts.Asked.{IsRequest}
 use Rattle.sbp_world.proofs.Hosts.Cores.{append_told, apart_core, asks_core, begun_by, list_first, list_in, list_later, rung_as, rung_by, started_by}

@@ -1,40 +1,18 @@
 -- The end of a transaction, and the core of the initiator's host.
-use Rattle.std.proofs.Common.{arith, ◌≡◌, refl, sym, ◌∙◌, ap, subst, ℕ, ◌==◌, not, Bool, true, false, cond, List, length, Option, Some, None, Result, Ok, Err}
-use Rattle.std.proofs.lemmas.Bool.Decides.{nat_tests}
-use Rattle.config_rom.specs.declared.fault.RomFault.{RomFault}
-use Rattle.config_rom.specs.declared.unit.SbpUnit.{SbpUnit}
-use Rattle.config_rom.specs.Reading.{Tree, reading}
-use Rattle.config_rom.specs.Unit.{sbp_unit_of}
-use Rattle.label_table.specs.declared.judgement.Asked.{Asked}
-use Rattle.label_table.specs.Layer.{Layer, asking_step}
-use Rattle.orb_list.specs.declared.list.PresentList.{PresentList}
-use Rattle.orb_list.specs.Lists.{drop_lists}
-use Rattle.sbp_journal.specs.Run.{Moment}
-use Rattle.sbp_journal.specs.Outgoings.{OutboxState}
+use Rattle.sbp_world.proofs.Words.Std.{arith, ◌≡◌, refl, sym, ◌∙◌, ap, subst, ℕ, ◌==◌, not, Bool, true, false, cond, List, length, Option, Some, None, Result, Ok, Err, nat_tests}
+use Rattle.sbp_world.proofs.Words.Wire.{Asked, Layer, asking_step, Moment, OutboxState, Operation, OpWord}
+use Rattle.sbp_world.proofs.Words.Target.{RomFault, SbpUnit, Tree, reading, sbp_unit_of}
+use Rattle.sbp_world.proofs.Words.Initiator.{PresentList, drop_lists, Seat, bad, conflict, goes, pointed, Ending, Pointing, Purpose, Running, InitiatorState, asked_quad, conflict_for, drop_list_step, drop_where, end_own_step, ended_for, ended_step, fail_step, fault_number, good_event, good_word, is_address, is_conflict, known_where, managed_step, next_quad, pointed_step, quad_got, response_of, state_told, with_answered, with_dead, with_request, with_rom, with_unit, ends_list, counts_for, is_list, is_unwritten, with_quad, management_at}
+use Rattle.sbp_world.proofs.Words.Laws.{Session, session_ended}
+use Rattle.sbp_world.proofs.Words.World.{own_core, session_in}
 use Rattle.sbp_journal.specs.declared.note.Note.TheVariants as notes
-use Rattle.sbp_journal.specs.declared.operation.Operation.{Operation}
 use Rattle.sbp_journal.specs.declared.operation.Operation.TheVariants as operations
-use Rattle.sbp_journal.specs.declared.operation.OpWord.{OpWord}
 use Rattle.sbp_journal.specs.declared.operation.OpWord.TheVariants as words
-use Rattle.sbp_session.specs.declared.seat.Seat.{Seat}
 use Rattle.sbp_session.specs.declared.seat.Seat.TheVariants as seats
-use Rattle.sbp_session.specs.Moves.{bad, conflict, goes, pointed}
-use Rattle.sbp_initiator.specs.declared.purpose.Ending.{Ending}
 use Rattle.sbp_initiator.specs.declared.purpose.Ending.TheVariants as endings
-use Rattle.sbp_initiator.specs.declared.purpose.Pointing.{Pointing}
-use Rattle.sbp_initiator.specs.declared.purpose.Purpose.{Purpose}
 use Rattle.sbp_initiator.specs.declared.purpose.Purpose.TheVariants as purposes
-use Rattle.sbp_initiator.specs.declared.purpose.Running.{Running}
-use Rattle.sbp_initiator.specs.declared.state.InitiatorState.{InitiatorState}
-use Rattle.sbp_initiator.specs.Effects.{asked_quad, conflict_for, drop_list_step, drop_where, end_own_step, ended_for, ended_step, fail_step, fault_number, good_event, good_word, is_address, is_conflict, known_where, managed_step, next_quad, pointed_step, quad_got, response_of, state_told, with_answered, with_dead, with_request, with_rom, with_unit}
-use Rattle.sbp_initiator.specs.Refusals.{ends_list}
-use Rattle.sbp_initiator.specs.States.{counts_for, is_list, is_unwritten}
-use Rattle.initiator_base.specs.Quads.{with_quad}
-use Rattle.initiator_base.specs.Places.{management_at}
 use Rattle.sbp_initiator.proofs.Histories.Effects.{Fits, IsFor}
 use Rattle.sbp_initiator.proofs.Histories.Purposes.{IfFor}
-use Rattle.sbp_laws.specs.Hosts.{Session, session_ended}
-use Rattle.sbp_world.specs.Hosts.Core.{own_core, session_in}
 use Rattle.sbp_world.proofs.Hosts.Cores.{apart_core, op_told}
 use Rattle.sbp_world.proofs.Hosts.Knowing.{Known, Stays, bad_agrees, conflict_agrees, drop_known, end_own_known, good_agrees, moved_known, pick_known, pick_state, seated, stays_error, stick_known, still_known, tell}
 use Rattle.sbp_world.proofs.Lists.LiveMoves.{drop_operation}

@@ -1,32 +1,12 @@
 -- A delivery and a time-out, and the core of the initiator's host.
-use Rattle.std.proofs.Common.{◌≡◌, refl, ℕ, Bool, true, false, cond, List, [], replicate, Option, Some, None, Result, Ok, Err}
-use Rattle.byteorder.specs.Endian.{big_bytes}
-use Rattle.async_packet.specs.Labels.{LabelParts}
-use Rattle.async_packet.specs.Packet.{Packet, header_in, lock, lock_response, read_block, read_block_response, read_quadlet, read_quadlet_response, write_block, write_quadlet, write_response}
-use Rattle.bus_memory.specs.Access.{read_step}
-use Rattle.label_table.specs.declared.reply.Stale.{Stale}
-use Rattle.label_table.specs.Layer.{Finding, Layer, answering_step, expiring_step, judging_step, of_again, of_generation, of_grammar, of_label, of_request, of_response}
-use Rattle.media_bay.specs.Unsolicited.{is_block}
-use Rattle.orb_layout.specs.declared.fault.OrbFault.{OrbFault}
-use Rattle.orb_layout.specs.declared.status.StatusBlock.{StatusBlock}
-use Rattle.orb_layout.specs.declared.status.StatusKind.{StatusKind}
+use Rattle.sbp_world.proofs.Words.Std.{◌≡◌, refl, ℕ, Bool, true, false, cond, List, [], replicate, Option, Some, None, Result, Ok, Err, big_bytes}
+use Rattle.sbp_world.proofs.Words.Wire.{LabelParts, Packet, header_in, lock, lock_response, read_block, read_block_response, read_quadlet, read_quadlet_response, write_block, write_quadlet, write_response, Stale, Finding, Layer, answering_step, expiring_step, judging_step, of_again, of_generation, of_grammar, of_label, of_request, of_response, Moment, OutboxState, Judged}
+use Rattle.sbp_world.proofs.Words.Target.{is_block}
+use Rattle.sbp_world.proofs.Words.Initiator.{read_step, OrbFault, StatusBlock, StatusKind, ListState, take_lists, write_lists, TicketParts, Fifo, Purpose, Running, InitiatorState, Turn, managed_step, told, with_dead, is_dead_kind, addressed, answer_of, block_at, block_by, block_step, called, expire_step, expired_as, fifo_of, is_foreign, managed_for, present_for, quadlet_at, read_as, receive_step, received, responded_as, respond_step, serve_step, status_step, taken_as, taken_by, type_error, written_as, ending_of, is_present_orb, status_in}
 use Rattle.orb_layout.specs.declared.status.StatusKind.TheVariants as kinds
-use Rattle.orb_list.specs.Lists.{ListState, take_lists, write_lists}
-use Rattle.orb_list.specs.Tickets.{TicketParts}
-use Rattle.sbp_journal.specs.Run.{Moment}
-use Rattle.sbp_journal.specs.Outgoings.{OutboxState}
-use Rattle.sbp_journal.specs.declared.cause.Judged.{Judged}
 use Rattle.sbp_journal.specs.declared.note.Note.TheVariants as notes
-use Rattle.initiator_base.specs.declared.fifos.Fifo.{Fifo}
 use Rattle.initiator_base.specs.declared.fifos.Fifo.TheVariants as fifos
 use Rattle.sbp_initiator.specs.declared.purpose.Ending.TheVariants as endings
-use Rattle.sbp_initiator.specs.declared.purpose.Purpose.{Purpose}
-use Rattle.sbp_initiator.specs.declared.purpose.Running.{Running}
-use Rattle.sbp_initiator.specs.declared.state.InitiatorState.{InitiatorState}
-use Rattle.sbp_initiator.specs.Effects.{Turn, managed_step, told, with_dead}
-use Rattle.initiator_base.specs.Fifos.{is_dead_kind}
-use Rattle.sbp_initiator.specs.Receiving.{addressed, answer_of, block_at, block_by, block_step, called, expire_step, expired_as, fifo_of, is_foreign, managed_for, present_for, quadlet_at, read_as, receive_step, received, responded_as, respond_step, serve_step, status_step, taken_as, taken_by, type_error, written_as}
-use Rattle.sbp_initiator.specs.States.{ending_of, is_present_orb, status_in}
 use Rattle.sbp_initiator.proofs.Histories.Effects.{Fits}
 use Rattle.sbp_initiator.proofs.Histories.Purposes.{IfFor}
 use Rattle.sbp_world.proofs.Hosts.Cores.{taken_told}

@@ -1,29 +1,15 @@
 -- A generation that is seen, and the core of the initiator's host.
-use Rattle.std.proofs.Common.{◌≡◌, refl, sym, ◌∙◌, ap, ℕ, suc, ◌==◌, nat_lt, not, Bool, true, false, cond, List, [], ◌∷◌, Option, Some, None}
-use Rattle.label_table.specs.Layer.{Layer, seeing_step}
-use Rattle.sbp_journal.specs.Run.{Moment, said}
-use Rattle.sbp_journal.specs.Wire.{terms}
-use Rattle.sbp_journal.specs.Outgoings.{OutboxState, empty_outbox}
+use Rattle.sbp_world.proofs.Words.Std.{◌≡◌, refl, sym, ◌∙◌, ap, ℕ, suc, ◌==◌, nat_lt, not, Bool, true, false, cond, List, [], ◌∷◌, Option, Some, None}
+use Rattle.sbp_world.proofs.Words.Wire.{Layer, seeing_step, Moment, said, terms, OutboxState, empty_outbox, Operation}
+use Rattle.sbp_world.proofs.Words.Initiator.{Seat, goes, reset, Purpose, Running, InitiatorState, PresentList, drop_lists, with_slots, drop_for, drop_step, is_unwritten, drop_list_step, dropped_as, all_end, freed_step, interrupted, reset_step, reset_told, resets_told, see_step, seen_as, states_end}
+use Rattle.sbp_world.proofs.Words.Laws.{Session, host_at, session_reset}
+use Rattle.sbp_world.proofs.Words.World.{Core, host_core, own_core, session_in}
 use Rattle.sbp_journal.specs.declared.note.Note.TheVariants as notes
-use Rattle.sbp_journal.specs.declared.operation.Operation.{Operation}
 use Rattle.sbp_journal.specs.declared.operation.Operation.TheVariants as operations
 use Rattle.sbp_journal.specs.declared.operation.OpWord.TheVariants as words
 use Rattle.sbp_session.specs.declared.seat.Origin.TheVariants as origins
-use Rattle.sbp_session.specs.declared.seat.Seat.{Seat}
 use Rattle.sbp_session.specs.declared.seat.Seat.TheVariants as seats
-use Rattle.sbp_session.specs.Moves.{goes, reset}
-use Rattle.sbp_initiator.specs.declared.purpose.Purpose.{Purpose}
-use Rattle.sbp_initiator.specs.declared.purpose.Running.{Running}
-use Rattle.sbp_initiator.specs.declared.state.InitiatorState.{InitiatorState}
-use Rattle.orb_list.specs.declared.list.PresentList.{PresentList}
-use Rattle.orb_list.specs.Lists.{drop_lists, with_slots}
-use Rattle.orb_list.specs.Table.{drop_for, drop_step}
-use Rattle.sbp_initiator.specs.States.{is_unwritten}
 use Rattle.sbp_initiator.proofs.Histories.Effects.{HasMarks}
-use Rattle.sbp_initiator.specs.Effects.{drop_list_step, dropped_as}
-use Rattle.sbp_initiator.specs.Seeing.{all_end, freed_step, interrupted, reset_step, reset_told, resets_told, see_step, seen_as, states_end}
-use Rattle.sbp_laws.specs.Hosts.{Session, host_at, session_reset}
-use Rattle.sbp_world.specs.Hosts.Core.{Core, host_core, own_core, session_in}
 use Rattle.sbp_world.proofs.Hosts.Cores.{apart_core, ended_in, op_told, reset_in, seen_told}
 use Rattle.sbp_world.proofs.Hosts.Knowing.{Known, closed_in, drop_known, still_known, tell}
 

@@ -1,28 +1,15 @@
 -- What an initiator tells behind a history, and the core of its host.
-use Rattle.std.proofs.Common.{◌≡◌, refl, sym, ◌∙◌, ap, subst, ℕ, ◌==◌, nat_eq, not, Bool, true, false, cond, List, ◌∷◌, Option, Some, None}
-use Rattle.orb_list.specs.Lists.{ListState, drop_lists}
-use Rattle.sbp_journal.specs.Run.{Moment, said}
-use Rattle.sbp_journal.specs.Wire.{terms}
-use Rattle.sbp_journal.specs.Outgoings.{OutboxState}
-use Rattle.sbp_journal.specs.declared.note.Note.{Note}
+use Rattle.sbp_world.proofs.Words.Std.{◌≡◌, refl, sym, ◌∙◌, ap, subst, ℕ, ◌==◌, nat_eq, not, Bool, true, false, cond, List, ◌∷◌, Option, Some, None}
+use Rattle.sbp_world.proofs.Words.Wire.{Moment, said, terms, OutboxState, Note, Operation, OpWord}
+use Rattle.sbp_world.proofs.Words.Initiator.{ListState, drop_lists, Seat, Move, bad, conflict, failed, goes, is_stuck_seat, Running, InitiatorState, Turn, drop_list_step, dropped_as, end_own_for, end_own_step, end_step, good_event, good_word, moved, moves_session, stick_step, told}
+use Rattle.sbp_world.proofs.Words.Laws.{event_of, Session, host_at, session_ended, session_stuck}
+use Rattle.sbp_world.proofs.Words.World.{behind, Core, host_core, operation_by, own_core, session_in, work_in}
 use Rattle.sbp_journal.specs.declared.note.Note.TheVariants as notes
-use Rattle.sbp_journal.specs.declared.operation.Operation.{Operation}
 use Rattle.sbp_journal.specs.declared.operation.Operation.TheVariants as operations
-use Rattle.sbp_journal.specs.declared.operation.OpWord.{OpWord}
 use Rattle.sbp_journal.specs.declared.operation.OpWord.TheVariants as words
 use Rattle.sbp_journal.specs.declared.side.Side.TheVariants as sides
-use Rattle.sbp_session.specs.declared.seat.Seat.{Seat}
 use Rattle.sbp_session.specs.declared.seat.Seat.TheVariants as seats
-use Rattle.sbp_session.specs.Moves.{Event as Move, bad, conflict, failed, goes}
-use Rattle.sbp_session.specs.Seats.{is_stuck_seat}
-use Rattle.sbp_initiator.specs.declared.purpose.Running.{Running}
-use Rattle.sbp_initiator.specs.declared.state.InitiatorState.{InitiatorState}
-use Rattle.sbp_initiator.specs.Effects.{Turn, drop_list_step, dropped_as, end_own_for, end_own_step, end_step, good_event, good_word, moved, moves_session, stick_step, told}
-use Rattle.sbp_laws.specs.Turns.{event_of}
-use Rattle.sbp_laws.specs.Hosts.{Session, host_at, session_ended, session_stuck}
 use Rattle.sbp_laws.specs.Hosts as terms
-use Rattle.sbp_world.specs.Hosts.Calls.{behind}
-use Rattle.sbp_world.specs.Hosts.Core.{Core, host_core, operation_by, own_core, session_in, work_in}
 use Rattle.sbp_world.proofs.Hosts.Cores.{apart_core, drop_told, ended_in, list_in, op_told, stuck_in, stuck_told}
 use Rattle.sbp_world.proofs.Hosts.Listed.{behind_more}
 use Rattle.sbp_world.proofs.Common.{untrue}

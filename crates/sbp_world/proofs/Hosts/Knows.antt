@@ -1,25 +1,14 @@
 -- What the wire that a world stands for tells of its initiators: what a packet is that the store has, the generation that an initiator is in,
 -- and that its target is a node.
-use Rattle.std.proofs.Common.{arith, ◌≡◌, refl, sym, ◌∙◌, ap, ℕ, suc, ◌<◌, ◌≤◌, not, nat_eq, nat_lt, Bool, true, false, List, length, Some}
-use Rattle.std.proofs.lemmas.Bool.Decides.{nat_tests}
-use Rattle.bus_transactions.specs.Wire.{Node, as_sending}
+use Rattle.sbp_world.proofs.Words.Std.{arith, ◌≡◌, refl, sym, ◌∙◌, ap, ℕ, suc, ◌<◌, ◌≤◌, not, nat_eq, nat_lt, Bool, true, false, List, length, Some, nat_tests}
+use Rattle.sbp_world.proofs.Words.Wire.{Node, as_sending, Layer, seeing_step, Sent, found_sent, is_flying, Stored, Moment, Terms, terms, id_of, node_of}
+use Rattle.sbp_world.proofs.Words.Initiator.{Purpose}
+use Rattle.sbp_world.proofs.Words.World.{WorldState, initiator_at, Stands, history, MaySee}
 use Rattle.bus_transactions.proofs.Follows.{found_kept}
 use Rattle.bus_transactions.proofs.Reaches.{goes_on}
-use Rattle.label_table.specs.Layer.{Layer, seeing_step}
-use Rattle.packet_store.specs.declared.sent.Sent.{Sent}
-use Rattle.packet_store.specs.Kept.{found_sent, is_flying}
-use Rattle.packet_store.specs.Stored.{Stored}
-use Rattle.sbp_journal.specs.Run.{Moment}
-use Rattle.sbp_journal.specs.Wire.{Terms, terms}
-use Rattle.sbp_initiator.specs.declared.purpose.Purpose.{Purpose}
-use Rattle.sbp_bus.specs.Generations.{id_of, node_of}
-use Rattle.sbp_world.specs.Worlds.{WorldState, initiator_at}
-use Rattle.sbp_world.specs.Wire.Wires.{Stands}
 use Rattle.sbp_world.proofs.Wire.Bus.{aged, holds}
 use Rattle.sbp_world.proofs.Wire.Found.{node_found}
 use Rattle.sbp_world.proofs.Wire.Holding.{NodesOf, to_target}
-use Rattle.sbp_world.specs.Hosts.Handing.{history}
-use Rattle.sbp_world.specs.Hosts.Lines.{MaySee}
 use Rattle.sbp_world.proofs.Sessions.BlockNotes.{judges_sent, closes_if_sent, closes_sent, gets_sent}
 
 -- ---- a packet that is got stays as it was sent

@@ -1,53 +1,30 @@
 -- A request of an initiator finds a label exactly where the run says so.
-use Rattle.std.proofs.Common.{arith, ◌≡◌, refl, sym, ◌∙◌, ap, subst, ℕ, zero, suc, ◌+◌, ◌%◌, ◌^◌, ◌<◌, ◌≤◌, ◌&&◌, ◌||◌, nat_eq, nat_le, not, is_some, Bool, true, false, cond, List, Option, Some, None, length}
-use Rattle.async_packet.specs.Canon.{IsValid, canon}
+use Rattle.sbp_world.proofs.Words.Std.{arith, ◌≡◌, refl, sym, ◌∙◌, ap, subst, ℕ, zero, suc, ◌+◌, ◌%◌, ◌^◌, ◌<◌, ◌≤◌, ◌&&◌, ◌||◌, nat_eq, nat_le, not, is_some, Bool, true, false, cond, List, Option, Some, None, length}
+use Rattle.sbp_world.proofs.Words.Wire.{IsValid, canon, bare, bare_after, same, FitsRequest, MayAsk, LabelsLaw, bare_request, Node, Wire, id_for, transaction, Asked, Body, header_to, quadlet_read, request_with, Layer, asking_step, unlabelled, is_last, is_write, with_label, Moment, Held, Terms, free, rests, terms, waits, agent_state, OutboxState, Action}
+use Rattle.sbp_world.proofs.Words.Initiator.{Purpose, InitiatorState, act_step, counted_list, register_of}
+use Rattle.sbp_world.proofs.Words.Laws.{refusal_at, host_at, finds_label, label_for, lowest_from, request_bytes, serves, to_peer}
+use Rattle.sbp_world.proofs.Words.World.{WorldState, initiator_at, history_of, Run, after, beginning, history, RunLabelLaw, label_in, sends_read, IsRun}
 use Rattle.async_packet.proofs.RoundTrip.{canon_spells}
-use Rattle.bus_transactions.specs.Bare.{bare, bare_after, same}
-use Rattle.bus_transactions.specs.Fitting.{FitsRequest}
-use Rattle.bus_transactions.specs.May.{MayAsk}
-use Rattle.bus_transactions.specs.Sent.{LabelsLaw, bare_request}
 use Rattle.bus_transactions.specs.Sent as sent
-use Rattle.bus_transactions.specs.Wire.{Node, Wire, id_for, transaction}
 use Rattle.bus_transactions.proofs.Bares.{takes_steps}
 use Rattle.bus_transactions.proofs.Fits.{request_fits}
 use Rattle.bus_transactions.proofs.MoveAsk.{asked_bytes}
 use Rattle.bus_transactions.proofs.SentLaws.{asked_own, labels_always}
 use Rattle.bus_transactions.proofs.Stands.{Stands as Holds}
 use Rattle.bus_transactions.proofs.Steps.{AskedAs, asks}
-use Rattle.label_table.specs.declared.judgement.Asked.{Asked}
-use Rattle.label_table.specs.Bodies.{Body, header_to, quadlet_read, request_with}
-use Rattle.label_table.specs.Layer.{Layer, asking_step, unlabelled}
-use Rattle.label_table.specs.Requests.{is_last, is_write, with_label}
 use Rattle.label_table.proofs.Requests.{least_spelled}
 use Rattle.label_table.proofs.Rewritten.{writes_labels}
 use Rattle.label_table.proofs.Steps.{write_with}
-use Rattle.sbp_journal.specs.Run.{Moment}
-use Rattle.sbp_journal.specs.Wire.{Held, Terms, free, rests, terms, waits}
-use Rattle.sbp_initiator.specs.declared.purpose.Purpose.{Purpose}
-use Rattle.sbp_initiator.specs.declared.state.InitiatorState.{InitiatorState}
-use Rattle.sbp_journal.specs.Addresses.{agent_state}
-use Rattle.sbp_journal.specs.Outgoings.{OutboxState}
-use Rattle.sbp_journal.specs.declared.event.Action.{Action}
 use Rattle.sbp_journal.specs.declared.event.Action.TheVariants as actions
 use Rattle.sbp_initiator.specs.declared.purpose.Purpose.TheVariants as purposes
-use Rattle.sbp_initiator.specs.Acting.{act_step, counted_list, register_of}
-use Rattle.sbp_laws.specs.Actions.{refusal_at}
 use Rattle.sbp_laws.specs.Actions as run_actions
-use Rattle.sbp_laws.specs.Hosts.{host_at}
-use Rattle.sbp_laws.specs.Packets.{finds_label, label_for, lowest_from, request_bytes, serves, to_peer}
 use Rattle.sbp_laws.specs.Packets as packets
-use Rattle.sbp_world.specs.Worlds.{WorldState, initiator_at}
 use Rattle.sbp_world.proofs.Wire.Bus.{holds}
 use Rattle.sbp_world.proofs.Wire.Holding.{Sound, target_small, to_target}
 use Rattle.sbp_world.proofs.Wire.Runs.{SoundAfter, sound_after}
 use Rattle.sbp_world.proofs.FitInitiator.Law.{fitting_law as own_fitting_law}
 use Rattle.sbp_world.proofs.FitTarget.Law.{fitting_law}
-use Rattle.sbp_world.specs.Histories.{history_of}
-use Rattle.sbp_world.specs.Runs.{Run, after, beginning}
-use Rattle.sbp_world.specs.Hosts.Handing.{history}
-use Rattle.sbp_world.specs.Hosts.Labels.{RunLabelLaw, label_in, sends_read}
 use Rattle.sbp_world.specs.Hosts.Refusing.{initiator_of}
-use Rattle.sbp_world.specs.Hosts.Runs.{IsRun}
 use Rattle.sbp_world.proofs.Hosts.Deciding.{run_refusal_law}
 use Rattle.sbp_world.proofs.Hosts.Runs.{count_after}
 use Rattle.sbp_world.proofs.Common.{untrue}

@@ -1,30 +1,12 @@
 -- In every run what the history says of the ORBs of an initiator lasts.
-use Rattle.std.proofs.Common.{arith, ◌≡◌, refl, sym, ap, subst, ◌∙◌, ℕ, zero, suc, ◌+◌, ◌-◌, ◌==◌, not, is_some, Bool, true, false, List, [], ◌∷◌, ◌++◌, Option, Some, None}
-use Rattle.orb_list.specs.declared.list.Linking.{Linking}
-use Rattle.orb_list.specs.Table.{SlotTable, orb_number, waits_high}
-use Rattle.sbp_initiator.specs.declared.state.InitiatorState.{InitiatorState}
-use Rattle.sbp_initiator.specs.Acting.{act_step}
-use Rattle.sbp_initiator.specs.Effects.{Turn}
-use Rattle.sbp_initiator.specs.Initiators.{new_state}
-use Rattle.sbp_initiator.specs.Receiving.{expire_step, receive_step}
-use Rattle.sbp_initiator.specs.Seeing.{see_step}
-use Rattle.sbp_bus.specs.Packets.{judged_note}
-use Rattle.sbp_journal.specs.Buffers.{buffer_of}
-use Rattle.sbp_journal.specs.Outgoings.{empty_outbox}
-use Rattle.sbp_journal.specs.Run.{Moment, asked, said}
-use Rattle.sbp_journal.specs.declared.event.Action.{Action}
+use Rattle.sbp_world.proofs.Words.Std.{arith, ◌≡◌, refl, sym, ap, subst, ◌∙◌, ℕ, zero, suc, ◌+◌, ◌-◌, ◌==◌, not, is_some, Bool, true, false, List, [], ◌∷◌, ◌++◌, Option, Some, None}
+use Rattle.sbp_world.proofs.Words.Wire.{judged_note, buffer_of, empty_outbox, Moment, asked, said, Action, Cmd}
+use Rattle.sbp_world.proofs.Words.Initiator.{Linking, SlotTable, orb_number, waits_high, InitiatorState, act_step, Turn, new_state, expire_step, receive_step, see_step, own}
+use Rattle.sbp_world.proofs.Words.Laws.{action_notes, append_notes, new_list, new_number, appends, event_of}
+use Rattle.sbp_world.proofs.Words.World.{behind, AreRows, LastingLaw, Lasts, ReadAs}
 use Rattle.sbp_journal.specs.declared.event.Action.TheVariants as actions
-use Rattle.sbp_journal.specs.declared.event.Cmd.{Cmd}
 use Rattle.sbp_journal.specs.declared.event.Event.TheVariants as events
 use Rattle.sbp_journal.specs.declared.note.Note.TheVariants as notes
-use Rattle.sbp_laws.specs.Actions.{action_notes, append_notes, new_list, new_number}
-use Rattle.sbp_laws.specs.Terms.{appends}
-use Rattle.sbp_laws.specs.Turns.{event_of}
-use Rattle.sbp_initiator.specs.Histories.Ends.{own}
-use Rattle.sbp_world.specs.Hosts.Calls.{behind}
-use Rattle.sbp_world.specs.Hosts.Fits.{AreRows}
-use Rattle.sbp_world.specs.Hosts.Lasting.{LastingLaw, Lasts}
-use Rattle.sbp_world.specs.Hosts.Reading.{ReadAs}
 use Rattle.sbp_world.proofs.Hosts.Acts.{Goes}
 use Rattle.sbp_world.proofs.Hosts.Carried.{between_runs, of_runs}
 use Rattle.sbp_world.proofs.Hosts.Carries.{Carries, Does, IsLineOf, Tells}

@@ -1,26 +1,13 @@
 -- What the history says of ORBs lasts, note by note.
-use Rattle.std.proofs.Common.{arith, ◌≡◌, refl, sym, ap, subst, ◌∙◌, ℕ, zero, suc, ◌<◌, ◌≤◌, ◌&&◌, nat_eq, nat_lt, Bool, true, false, cond, List, [], ◌∷◌, ◌++◌, Option, Some}
-use Rattle.std.proofs.lemmas.Bool.Decides.{nat_tests}
+use Rattle.sbp_world.proofs.Words.Std.{arith, ◌≡◌, refl, sym, ap, subst, ◌∙◌, ℕ, zero, suc, ◌<◌, ◌≤◌, ◌&&◌, nat_eq, nat_lt, Bool, true, false, cond, List, [], ◌∷◌, ◌++◌, Option, Some, nat_tests}
+use Rattle.sbp_world.proofs.Words.Wire.{Moment, asked, said, terms, Cmd, Note, NoteBuffer, Side}
+use Rattle.sbp_world.proofs.Words.Initiator.{start, Null, At, own}
+use Rattle.sbp_world.proofs.Words.Laws.{address_of, cmd_of, linked, lowest_vacant, slots, id_of, Request, appends, event_of}
+use Rattle.sbp_world.proofs.Words.World.{behind, Lasts, next_of}
 use Rattle.bus_memory.specs.declared.window.Window.TheVariants as windows
-use Rattle.bus_memory.specs.Windows.{start}
-use Rattle.orb_layout.specs.declared.pointer.OrbPointer.TheVariants.{Null, At}
-use Rattle.sbp_journal.specs.Run.{Moment, asked, said}
-use Rattle.sbp_journal.specs.Wire.{terms}
-use Rattle.sbp_journal.specs.declared.event.Cmd.{Cmd}
-use Rattle.sbp_journal.specs.declared.note.Note.{Note}
 use Rattle.sbp_journal.specs.declared.note.Note.TheVariants as notes
-use Rattle.sbp_journal.specs.declared.note.NoteBuffer.{NoteBuffer}
-use Rattle.sbp_journal.specs.declared.side.Side.{Side}
 use Rattle.sbp_journal.specs.declared.side.Side.TheVariants as sides
-use Rattle.sbp_laws.specs.CarriedBytes.{address_of}
-use Rattle.sbp_laws.specs.Lists.{cmd_of, linked, lowest_vacant, slots}
-use Rattle.sbp_laws.specs.Packets.{id_of}
-use Rattle.sbp_laws.specs.Terms.{Request, appends}
-use Rattle.sbp_laws.specs.Turns.{event_of}
-use Rattle.sbp_initiator.specs.Histories.Ends.{own}
-use Rattle.sbp_world.specs.Hosts.Calls.{behind, by_side}
-use Rattle.sbp_world.specs.Hosts.Lasting.{Lasts}
-use Rattle.sbp_world.specs.Hosts.Orbs.{next_of}
+use Rattle.sbp_world.specs.Hosts.Calls.{by_side}
 use Rattle.sbp_world.proofs.Hosts.OrbTerms.{AreLeft, AreStill, IsStill, OrbTerms, append_first, append_next, dummy_said, first_linked, link_said, low_said, orb_terms, orbs_left, with_append, with_dummy, with_link, with_low}
 use Rattle.sbp_world.proofs.Lists.BusyTold.{still_cut}
 use Rattle.sbp_world.proofs.Pointers.Naming.{at_most, still_below}

@@ -1,5 +1,5 @@
 -- The law of the lines of a world.
-use Rattle.sbp_world.specs.Hosts.Lines.{LineLaw}
+use Rattle.sbp_world.proofs.Words.World.{LineLaw}
 use Rattle.sbp_world.proofs.Hosts.Aborts.{line_aborts}
 use Rattle.sbp_world.proofs.Hosts.Liners.{acts, delivers, line_expires, line_sees, ticks}
 

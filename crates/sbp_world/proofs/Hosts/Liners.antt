@@ -1,72 +1,28 @@
 -- Single lines of a world.
-use Rattle.async_packet.specs.Labels.{LabelParts}
-use Rattle.label_table.specs.declared.reply.Stale.{Stale}
-use Rattle.label_table.specs.Layer.{Layer, expiring_step, seeing_step}
-use Rattle.sbp_initiator.specs.declared.purpose.Purpose.{Purpose}
-use Rattle.sbp_initiator.specs.Receiving.{expire_step, expired_as}
-use Rattle.sbp_initiator.specs.Seeing.{see_step}
-use Rattle.sbp_journal.specs.Wire.{terms as wire_terms}
-use Rattle.sbp_initiator.specs.Histories.Laws.{lets_expire, sees as laws_sees}
-use Rattle.sbp_target.specs.Nodes.{scene}
+use Rattle.sbp_world.proofs.Words.Std.{arith, ◌≡◌, refl, sym, ◌∙◌, ap, subst, ℕ, ◌+◌, ◌-◌, ◌<◌, ◌==◌, ◌||◌, not, nat_lt, Bool, true, false, cond, List, [], ◌∷◌, length, Option, Some, None, Result, Ok, Err, suc, nat_tests, set-get_or}
+use Rattle.sbp_world.proofs.Words.Wire.{LabelParts, Stale, Layer, expiring_step, seeing_step, wire_terms, Request, id_of, no_packet, judged_note, find, Sent, found_sent, is_flying, deliver_step, Moment, said, OutboxState, empty_outbox, Judged, Action, Note, Side}
+use Rattle.sbp_world.proofs.Words.Target.{scene, expired, Held, Told, NodeState}
+use Rattle.sbp_world.proofs.Words.Initiator.{Purpose, expire_step, expired_as, see_step, lets_expire, laws_sees, InitiatorState, act_step, Turn, new_state, receive_step, Call, IsCall, receives_call, done, Moves, Stage, staged, tells, sits, resets, relists, marks_as, works_at, reads_on, holds, learns, turns_to, counts_up, judges, answers, asks, fails, expires, stay, go_on}
+use Rattle.sbp_world.proofs.Words.World.{see_line, world_expires, initiator_expires, refused, target_expired, target_left, timed_out, timeout_line, timeout_of, sent_all, told_all, MaySee, Arrival, MayAt, MayReceive, MayTold, arrived, at_none, at_target, delivered, delivered_by, initiator_received, initiators_received, listed, received_at, received_by, received_step, target_received, handed_out, acted, acted_by, weight_in, target_ticks, tick_line, Scene, WorldState, initiator_at, with_initiator, with_note, with_target, Listed, AreNotes, AreOthers, IsNote, history, AreRows, MayDeliver, MayHear, is_abort, is_beside, AreBut, AreHosts, IsHost, NoneAborts}
 use Rattle.sbp_target.specs.Nodes as target
-use Rattle.sbp_target.specs.Receiving.{expired}
-use Rattle.sbp_bus.specs.declared.requests.Request.{Request}
-use Rattle.sbp_bus.specs.Generations.{id_of}
-use Rattle.sbp_world.specs.Nodes.{see_line}
-use Rattle.sbp_bus.specs.Packets.{no_packet, judged_note}
-use Rattle.sbp_world.specs.Packets.{expires as world_expires, initiator_expires, refused, target_expired, target_left, timed_out, timeout_line, timeout_of}
 use Rattle.sbp_world.specs.Packets as packets
-use Rattle.sbp_bus.specs.Requests.{find}
-use Rattle.sbp_world.specs.Sending.{sent_all}
-use Rattle.sbp_world.specs.Telling.{told_all}
-use Rattle.sbp_world.specs.Hosts.Lines.{MaySee}
 use Rattle.sbp_world.proofs.Hosts.Hands.{sight_tells}
 use Rattle.sbp_world.proofs.Hosts.Hears.{expire_listed}
 use Rattle.sbp_world.proofs.Hosts.Sees.{sees_listed}
 use Rattle.sbp_world.proofs.Hosts.TargetTells as target_tell
-use Rattle.std.proofs.Common.{arith, ◌≡◌, refl, sym, ◌∙◌, ap, subst, ℕ, ◌+◌, ◌-◌, ◌<◌, ◌==◌, ◌||◌, not, nat_lt, Bool, true, false, cond, List, [], ◌∷◌, length, slice_set, Option, Some, None, Result, Ok, Err, suc}
-use Rattle.std.proofs.lemmas.Bool.Decides.{nat_tests}
-use Rattle.std.proofs.lemmas.List.{set-get_or}
-use Rattle.packet_store.specs.declared.sent.Sent.{Sent}
-use Rattle.packet_store.specs.Kept.{found_sent, is_flying}
-use Rattle.packet_store.specs.Stored.{deliver_step}
-use Rattle.rbc_disk.specs.Held.{Held}
-use Rattle.rbc_disk.specs.Runs.{Told}
-use Rattle.sbp_journal.specs.Run.{Moment, said}
-use Rattle.sbp_journal.specs.Outgoings.{OutboxState, empty_outbox}
-use Rattle.sbp_journal.specs.declared.cause.Judged.{Judged}
+use Rattle.std.proofs.Common.{slice_set}
 use Rattle.sbp_journal.specs.declared.cause.Judged.TheVariants as judgements
-use Rattle.sbp_journal.specs.declared.event.Action.{Action}
 use Rattle.sbp_journal.specs.declared.event.Action.TheVariants as actions
-use Rattle.sbp_journal.specs.declared.note.Note.{Note}
 use Rattle.sbp_journal.specs.declared.note.Note.TheVariants as notes
-use Rattle.sbp_journal.specs.declared.side.Side.{Side}
 use Rattle.sbp_journal.specs.declared.side.Side.TheVariants as sides
-use Rattle.sbp_initiator.specs.declared.state.InitiatorState.{InitiatorState}
-use Rattle.sbp_initiator.specs.Acting.{act_step}
-use Rattle.sbp_initiator.specs.Effects.{Turn}
-use Rattle.sbp_initiator.specs.Initiators.{new_state}
-use Rattle.sbp_initiator.specs.Receiving.{receive_step}
-use Rattle.sbp_initiator.specs.Histories.Laws.{Call, IsCall, receives as receives_call, done}
-use Rattle.sbp_initiator.specs.Histories.Moves.{Move, Moves, Stage, staged, tells, sits, resets, relists, marks_as, works_at, reads_on, holds, learns, turns_to, counts_up, judges, answers, asks, fails, sends, expires, sees, stay, go_on}
+use Rattle.sbp_initiator.specs.Histories.Moves.{Move, sends, sees}
 use Rattle.sbp_initiator.proofs.Histories.Called.{call_moves}
 use Rattle.sbp_initiator.proofs.FirstRow.{refusal_law}
-use Rattle.sbp_target.specs.Nodes.{NodeState}
-use Rattle.sbp_world.specs.declared.parts.delivering.Arrival.{Arrival}
-use Rattle.sbp_world.specs.Delivering.{MayAt, MayReceive, MayTold, arrived, at_initiator, at_none, at_target, delivered, delivered_by, initiator_received, initiators_received, listed, received_at, received_by, received_step, target_received}
-use Rattle.sbp_world.specs.Handing.{handed_out}
-use Rattle.sbp_world.specs.Lines.{acted, acted_by, weight_in}
-use Rattle.sbp_world.specs.Nodes.{target_ticks, tick_line}
+use Rattle.sbp_world.specs.Delivering.{at_initiator}
 use Rattle.sbp_world.specs.Nodes as nodes
-use Rattle.sbp_world.specs.Worlds.{Scene, WorldState, initiator_at, with_initiator, with_note, with_target}
 use Rattle.sbp_world.proofs.Formed.{AreOwn, IsOwn}
 use Rattle.sbp_world.proofs.InitiatorForms as initiators
-use Rattle.sbp_world.specs.Hosts.Calls.{Left, Listed}
-use Rattle.sbp_world.specs.Hosts.Handing.{AreNotes, AreOthers, IsNote, history}
-use Rattle.sbp_world.specs.Hosts.Fits.{AreRows}
-use Rattle.sbp_world.specs.Hosts.Lines.{MayDeliver, MayHear, is_abort}
-use Rattle.sbp_world.specs.Hosts.Steps.{is_beside}
-use Rattle.sbp_world.specs.Hosts.Worlds.{AreBut, AreHosts, IsHost, NoneAborts}
+use Rattle.sbp_world.specs.Hosts.Calls.{Left}
 use Rattle.sbp_world.proofs.Hosts.Acts.{act_left}
 use Rattle.sbp_world.proofs.Hosts.Beside.{beside_rests}
 use Rattle.sbp_world.proofs.Hosts.Hands.{second_tells, target_tells}

@@ -1,16 +1,11 @@
 -- The last ORB of the present list is linked behind the one before it: first the low quadlet of its next pointer, then the high one.
-use Rattle.std.proofs.Common.{arith, ◌≡◌, refl, sym, ◌∙◌, ap, subst, ℕ, suc, ◌+◌, ◌<◌, ◌≤◌, ◌&&◌, ◌||◌, not, nat_eq, nat_lt, Bool, true, false, cond, List, map, Option, Some, None}
-use Rattle.std.proofs.lemmas.Bool.Decides.{nat_tests}
-use Rattle.orb_list.specs.declared.list.Link.{Link}
+use Rattle.sbp_world.proofs.Words.Std.{arith, ◌≡◌, refl, sym, ◌∙◌, ap, subst, ℕ, suc, ◌+◌, ◌<◌, ◌≤◌, ◌&&◌, ◌||◌, not, nat_eq, nat_lt, Bool, true, false, cond, List, map, Option, Some, None, nat_tests}
+use Rattle.sbp_world.proofs.Words.Initiator.{Link, PresentList, SlotState, TicketParts, SlotTable, slot_in, is_done}
+use Rattle.sbp_world.proofs.Words.Laws.{TakenStatus, Row}
+use Rattle.sbp_world.proofs.Words.World.{ListTerms, over_at, linked_by, LoweredFits, StateFits, Fits, Frees, Rows}
 use Rattle.orb_list.specs.declared.list.Link.TheVariants as links
-use Rattle.orb_list.specs.declared.list.PresentList.{PresentList}
-use Rattle.orb_list.specs.declared.slot.SlotState.{SlotState}
 use Rattle.orb_list.specs.declared.slot.SlotState.TheVariants as states
-use Rattle.orb_list.specs.Tickets.{TicketParts}
 use Rattle.orb_list.specs.Table as table
-use Rattle.orb_list.specs.Table.{SlotTable, slot_in, is_done}
-use Rattle.sbp_laws.specs.Lists.{TakenStatus, SlotState as Row}
-use Rattle.sbp_world.specs.Hosts.Fits.{ListTerms, over_at, linked_by, LoweredFits, StateFits, Fits, Frees, Rows}
 use Rattle.sbp_world.proofs.Hosts.Sweeps.{closes, closes_still}
 use Rattle.sbp_world.proofs.Common.{itself}
 

@@ -1,18 +1,11 @@
 -- What an initiator tells behind a history, beside its slots.
-use Rattle.std.proofs.Common.{true, false, ◌==◌, ◌≡◌, refl, sym, subst, ℕ, List, [], ◌∷◌, ◌++◌, Option, None}
-use Rattle.orb_list.specs.Tickets.{TicketParts}
-use Rattle.orb_list.specs.Table.{SlotTable}
-use Rattle.sbp_journal.specs.Run.{Moment, said}
-use Rattle.sbp_journal.specs.Outgoings.{OutboxState}
-use Rattle.sbp_journal.specs.declared.note.Note.{Note}
-use Rattle.sbp_journal.specs.declared.operation.Operation.{Operation}
+use Rattle.sbp_world.proofs.Words.Std.{true, false, ◌==◌, ◌≡◌, refl, sym, subst, ℕ, List, [], ◌∷◌, ◌++◌, Option, None}
+use Rattle.sbp_world.proofs.Words.Wire.{Moment, said, OutboxState, Note, Operation, Side}
+use Rattle.sbp_world.proofs.Words.Initiator.{TicketParts, SlotTable, told}
+use Rattle.sbp_world.proofs.Words.World.{AreRows, behind, Beside, PinOf, is_beside}
 use Rattle.sbp_journal.specs.declared.operation.Operation.TheVariants as operations
-use Rattle.sbp_journal.specs.declared.side.Side.{Side}
 use Rattle.sbp_journal.specs.declared.side.Side.TheVariants as sides
-use Rattle.sbp_initiator.specs.Effects.{told}
-use Rattle.sbp_world.specs.Hosts.Fits.{AreRows}
-use Rattle.sbp_world.specs.Hosts.Calls.{behind, by_side, Beside, PinOf}
-use Rattle.sbp_world.specs.Hosts.Steps.{is_beside}
+use Rattle.sbp_world.specs.Hosts.Calls.{by_side}
 use Rattle.sbp_world.proofs.Hosts.Beside.{beside_rests}
 
 pub behind_more : (told : List Side) (side : Side) (past : List Moment) → behind (told ++ side ∷ []) past ≡ by_side side (behind told past)

@@ -1,22 +1,12 @@
 -- What is under way in an initiator's layer, by the steps of the layer: what waits behind a packet that was judged, a time-out or a request
 -- did so before, or is that request.
-use Rattle.std.proofs.Common.{◌≡◌, refl, sym, ◌∙◌, ap, subst, ℕ, Bool, true, false, cond, List, ◌∷◌, Option, Some, None, Result, Ok, Err}
-use Rattle.async_packet.specs.declared.fault.PacketFault.{PacketFault}
-use Rattle.async_packet.specs.Labels.{LabelParts}
-use Rattle.async_packet.specs.Packet.{Packet, header_in}
-use Rattle.async_packet.specs.Reading.{reading}
-use Rattle.label_table.specs.declared.judgement.Asked.{Asked}
+use Rattle.sbp_world.proofs.Words.Std.{◌≡◌, refl, sym, ◌∙◌, ap, subst, ℕ, Bool, true, false, cond, List, ◌∷◌, Option, Some, None, Result, Ok, Err}
+use Rattle.sbp_world.proofs.Words.Wire.{PacketFault, LabelParts, Packet, header_in, reading, Asked, ReplyKind, Stale, Body, Finding, Layer, asking_step, expiring_step, judging_step, of_again, of_generation, of_grammar, of_label, of_request, of_response, unlabelled, Life, Told, and_before, began, closed, disowned, ended, expired, for_nobody, forgotten, lets_expire, life, not_begun, over, told_by_asking, told_by_expiring, told_by_finding, told_by_reading, told_closed, told_unknown, under_way, unknown, was_stale, purpose_for, state_for, kind_of, reply_kind}
+use Rattle.sbp_world.proofs.Words.Initiator.{Purpose}
 use Rattle.label_table.specs.declared.place.LabelState.TheVariants as states
-use Rattle.label_table.specs.declared.reply.ReplyKind.{ReplyKind}
-use Rattle.label_table.specs.declared.reply.Stale.{Stale}
-use Rattle.label_table.specs.Bodies.{Body}
-use Rattle.label_table.specs.Layer.{Finding, Layer, asking_step, expiring_step, judging_step, of_again, of_generation, of_grammar, of_label, of_request, of_response, unlabelled}
-use Rattle.label_table.specs.History.{Life, Told, and_before, asks, began, closed, disowned, ended, expired, for_nobody, forgotten, is_same, judges, lets_expire, life, not_begun, over, told_by_asking, told_by_expiring, told_by_finding, told_by_reading, told_closed, told_unknown, under_way, unknown, was_stale}
+use Rattle.label_table.specs.History.{asks, is_same, judges}
 use Rattle.label_table.specs.History as wire
-use Rattle.label_table.specs.Peers.{purpose_for, state_for}
-use Rattle.label_table.specs.Requests.{kind_of, reply_kind}
 use Rattle.label_table.proofs.Calls.{after_kept, told_law}
-use Rattle.sbp_initiator.specs.declared.purpose.Purpose.{Purpose}
 use Rattle.sbp_initiator.proofs.Histories.Lives.{of_same, same_of}
 
 abbrev Notes : Type 0

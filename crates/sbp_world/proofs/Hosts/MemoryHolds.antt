@@ -1,36 +1,18 @@
 -- What an initiator's memory has of its slots, and the rcodes of a read and of a write of it, are as the run terms say.
-use Rattle.std.proofs.Common.{arith, ◌≡◌, refl, sym, ap, subst, ◌∙◌, ℕ, suc, ◌+◌, ◌-◌, ◌*◌, ◌<◌, not, Bool, true, false, List, length, take, drop, slice_index_or, Option, Some, None}
-use Rattle.std.proofs.lemmas.List.{get_or-map, take_all}
-use Rattle.bus_memory.specs.Access.{read_step, write_step}
-use Rattle.bus_memory.specs.Laws.{IsWhole}
-use Rattle.bus_memory.specs.Memory.{Memory, slot_at}
+use Rattle.sbp_world.proofs.Words.Std.{arith, ◌≡◌, refl, sym, ap, subst, ◌∙◌, ℕ, suc, ◌+◌, ◌-◌, ◌*◌, ◌<◌, not, Bool, true, false, List, length, take, drop, Option, Some, None, take_all}
+use Rattle.sbp_world.proofs.Words.Wire.{Access, window_rcode, Moment}
+use Rattle.sbp_world.proofs.Words.Target.{made}
+use Rattle.sbp_world.proofs.Words.Initiator.{read_step, write_step, IsWhole, Memory, slot_at, IfShare, IsWindow, start, window_at, Window, CommandOrb, SlotState, HoldsSlots, IfHoldsOrb, Kept, kept_in, table_bytes, run, free_state, is_free, slot_in, unused, TicketParts, own_rom, InitiatorState}
+use Rattle.sbp_world.proofs.Words.Laws.{rom_size, Orb, prepared_in, vacant, direction_of, goes_in, is_used, orb_in_slot, rom_bytes, slot_is_open, table_held, table_in_slot, window_facts, window_gives}
+use Rattle.sbp_world.proofs.Words.World.{AreRows, IsReadOf, IsWriteOf, name, name_in, row, row_by}
+use Rattle.std.proofs.Common.{slice_index_or}
+use Rattle.std.proofs.lemmas.List.{get_or-map}
 use Rattle.bus_memory.specs.Memory as memories
-use Rattle.bus_memory.specs.Windows.{IfShare, IsWindow, start, window_at}
-use Rattle.bus_memory.specs.declared.window.Window.{Window}
 use Rattle.bus_memory.specs.declared.window.Window.TheVariants as windows
 use Rattle.bus_memory.proofs.Found.{window_here, window_share}
-use Rattle.config_rom.specs.Make.{made}
-use Rattle.orb_layout.specs.declared.command.CommandOrb.{CommandOrb}
-use Rattle.orb_list.specs.declared.slot.SlotState.{SlotState}
 use Rattle.orb_list.specs.declared.slot.SlotState.TheVariants as states
-use Rattle.orb_list.specs.Holds.{HoldsSlots}
-use Rattle.orb_list.specs.Kept.{IfHoldsOrb, Kept, kept_in}
-use Rattle.orb_list.specs.Layout.{table_bytes}
-use Rattle.orb_list.specs.Runs.{run}
-use Rattle.orb_list.specs.Table.{free_state, is_free, slot_in, unused}
-use Rattle.orb_list.specs.Tickets.{TicketParts}
 use Rattle.orb_list.proofs.Steps.{held_law}
-use Rattle.sbp_initiator.specs.Initiators.{own_rom}
-use Rattle.sbp_initiator.specs.declared.state.InitiatorState.{InitiatorState}
-use Rattle.sbp_journal.specs.Addresses.{Access}
-use Rattle.sbp_journal.specs.Rows.{window_rcode}
-use Rattle.sbp_journal.specs.Run.{Moment}
-use Rattle.sbp_laws.specs.JudgementLaw.{rom_size}
-use Rattle.sbp_laws.specs.Lists.{Orb, prepared_in, vacant}
-use Rattle.sbp_laws.specs.Served.{direction_of, goes_in, is_used, orb_in_slot, rom_bytes, slot_is_open, table_held, table_in_slot, window_facts, window_gives}
-use Rattle.sbp_world.specs.Hosts.Fits.{AreRows}
-use Rattle.sbp_world.specs.Hosts.Reads.{IsHeld, IsReadOf, IsWriteOf}
-use Rattle.sbp_world.specs.Hosts.Rows.{name, name_in, row, row_by}
+use Rattle.sbp_world.specs.Hosts.Reads.{IsHeld}
 use Rattle.sbp_world.proofs.Hosts.Chains.{chained_run}
 use Rattle.sbp_world.proofs.Hosts.MemoryOrbs.{orb_is, table_size}
 use Rattle.sbp_world.proofs.Hosts.MemoryRcodes.{Agrees, IfAgrees, read_code, write_code}

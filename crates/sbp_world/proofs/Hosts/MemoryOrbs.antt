@@ -1,20 +1,10 @@
 -- The bytes of an ORB and of a page table in a slot, as the run terms have them.
-use Rattle.std.proofs.Common.{◌≡◌, refl, sym, ap, ◌∙◌, ℕ, suc, ◌+◌, ◌*◌, nat_le, nat_lt, Bool, true, false, cond, List, ◌++◌, length, drop}
-use Rattle.byteorder.specs.Endian.{big_bytes}
-use Rattle.bus_memory.specs.declared.slot.SlotMemory.{SlotMemory}
+use Rattle.sbp_world.proofs.Words.Std.{◌≡◌, refl, sym, ap, ◌∙◌, ℕ, suc, ◌+◌, ◌*◌, nat_le, nat_lt, Bool, true, false, cond, List, ◌++◌, length, drop, big_bytes}
+use Rattle.sbp_world.proofs.Words.Wire.{Moment, Cmd}
+use Rattle.sbp_world.proofs.Words.Initiator.{SlotMemory, start, command_bytes, pointer_high, Null, At, HoldsOrb, Kept, orb_of, table_bytes, Asked}
+use Rattle.sbp_world.proofs.Words.Laws.{command_at, is_dummy, place_at, asked_for, id_as_prepared, next_high, next_low, orb_held, with_format}
 use Rattle.bus_memory.specs.declared.window.Window.TheVariants as windows
-use Rattle.bus_memory.specs.Windows.{start}
-use Rattle.orb_layout.specs.CommandOrbs.{command_bytes}
-use Rattle.orb_layout.specs.Pointers.{pointer_high}
-use Rattle.orb_layout.specs.declared.pointer.OrbPointer.TheVariants.{Null, At}
-use Rattle.orb_list.specs.Kept.{HoldsOrb, Kept}
-use Rattle.orb_list.specs.Layout.{orb_of, table_bytes}
-use Rattle.orb_list.specs.Requests.{Asked}
 use Rattle.orb_list.proofs.Held.{table_length}
-use Rattle.sbp_journal.specs.Run.{Moment}
-use Rattle.sbp_journal.specs.declared.event.Cmd.{Cmd}
-use Rattle.sbp_laws.specs.Lists.{command_at, is_dummy, slot_at as place_at}
-use Rattle.sbp_laws.specs.Served.{asked_for, id_as_prepared, next_high, next_low, orb_held, with_format}
 use Rattle.sbp_world.proofs.Hosts.OrbFits.{OrbFits, low_to}
 use Rattle.sbp_world.proofs.Hosts.OrbTerms.{OrbTerms, orb_terms}
 

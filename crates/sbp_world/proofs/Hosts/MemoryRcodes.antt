@@ -1,17 +1,10 @@
 -- The rcode of a read and of a write of an initiator's memory, as the run terms have it, and the bytes that a read gives.
-use Rattle.std.proofs.Common.{arith, ◌≡◌, refl, sym, ap, subst, ◌∙◌, ℕ, ◌+◌, ◌-◌, ◌==◌, ◌&&◌, ◌||◌, not, nat_le, Bool, true, false, cond, List, [], ◌∷◌, length, take, drop, Option, Some, None, Ok, Err}
-use Rattle.bus_memory.specs.Access.{is_open as memory_open, judged, judged_at, read_at, read_step, spot_in, spot_of, takes_writes as memory_takes, write_at, write_step}
-use Rattle.bus_memory.specs.Memory.{Memory, bytes_in}
-use Rattle.bus_memory.specs.Windows.{is_fifo, start, window_at}
+use Rattle.sbp_world.proofs.Words.Std.{arith, ◌≡◌, refl, sym, ap, subst, ◌∙◌, ℕ, ◌+◌, ◌-◌, ◌==◌, ◌&&◌, ◌||◌, not, nat_le, Bool, true, false, cond, List, [], ◌∷◌, length, take, drop, Option, Some, None, Ok, Err}
+use Rattle.sbp_world.proofs.Words.Wire.{Access, first_or, window_rcode, Moment}
+use Rattle.sbp_world.proofs.Words.Initiator.{memory_open, judged, judged_at, read_at, read_step, spot_in, spot_of, memory_takes, write_at, write_step, Memory, bytes_in, is_fifo, start, window_at, TypeError, Spot, Window}
+use Rattle.sbp_world.proofs.Words.Laws.{has_direction, is_open, lies_inside, size_of, takes_writes, window_facts}
+use Rattle.sbp_world.proofs.Words.World.{IsReadOf, IsWriteOf}
 use Rattle.bus_memory.specs.declared.access.Access.TheVariants.{Read, Write}
-use Rattle.bus_memory.specs.declared.access.Rcode.TheVariants.{TypeError}
-use Rattle.bus_memory.specs.declared.access.Spot.{Spot}
-use Rattle.bus_memory.specs.declared.window.Window.{Window}
-use Rattle.sbp_journal.specs.Addresses.{Access}
-use Rattle.sbp_journal.specs.Rows.{first_or, window_rcode}
-use Rattle.sbp_journal.specs.Run.{Moment}
-use Rattle.sbp_laws.specs.Served.{has_direction, is_open, lies_inside, size_of, takes_writes, window_facts}
-use Rattle.sbp_world.specs.Hosts.Reads.{IsReadOf, IsWriteOf}
 
 -- the run terms say of a window what the memory has
 pub record Agrees (past : List Moment) (i rom : ℕ) (m : Memory) (window : Window) : Type 0 where

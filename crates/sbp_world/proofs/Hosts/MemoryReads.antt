@@ -1,21 +1,12 @@
 -- What an initiator's memory gives and refuses is as the run terms say, in every run.
-use Rattle.std.proofs.Common.{arith, ◌≡◌, refl, sym, ap, ◌∙◌, ℕ, zero, suc, ◌+◌, ◌-◌, ◌<◌, ◌≤◌, ◌==◌, nat_le, drop-cons, ◌∷◌, Bool, true, false, List, length, take, drop, slice_index_or, Option, Some, None}
-use Rattle.std.proofs.lemmas.Bool.Decides.{nat_tests}
-use Rattle.bus_memory.specs.Access.{is_open as memory_open, read_step}
-use Rattle.bus_memory.specs.Laws.{IsWhole}
-use Rattle.bus_memory.specs.Memory.{Memory, bytes_in, slot_at}
-use Rattle.bus_memory.specs.Windows.{IfShare, is_fifo, start, window_at}
-use Rattle.bus_memory.specs.declared.window.Window.{Window}
+use Rattle.sbp_world.proofs.Words.Std.{arith, ◌≡◌, refl, sym, ap, ◌∙◌, ℕ, zero, suc, ◌+◌, ◌-◌, ◌<◌, ◌≤◌, ◌==◌, nat_le, drop-cons, ◌∷◌, Bool, true, false, List, length, take, drop, Option, Some, None, nat_tests}
+use Rattle.sbp_world.proofs.Words.Wire.{Access, Moment}
+use Rattle.sbp_world.proofs.Words.Initiator.{memory_open, read_step, IsWhole, Memory, bytes_in, slot_at, IfShare, is_fifo, start, window_at, Window, InitiatorState}
+use Rattle.sbp_world.proofs.Words.Laws.{rom_size, Orb, prepared_in, byte_in, bytes_from, cut, lies_inside, slot_is_open, window_gives}
+use Rattle.sbp_world.proofs.Words.World.{HoldsBytes, took_quadlet, IsReadBy, IsReadOf, IsSaid, MemoryLaw}
+use Rattle.std.proofs.Common.{slice_index_or}
 use Rattle.bus_memory.specs.declared.window.Window.TheVariants as windows
 use Rattle.bus_memory.proofs.Found.{window_share}
-use Rattle.sbp_initiator.specs.declared.state.InitiatorState.{InitiatorState}
-use Rattle.sbp_journal.specs.Addresses.{Access}
-use Rattle.sbp_journal.specs.Run.{Moment}
-use Rattle.sbp_laws.specs.JudgementLaw.{rom_size}
-use Rattle.sbp_laws.specs.Lists.{Orb, prepared_in}
-use Rattle.sbp_laws.specs.Served.{byte_in, bytes_from, cut, lies_inside, slot_is_open, window_gives}
-use Rattle.sbp_world.specs.Hosts.Bytes.{HoldsBytes, took_quadlet}
-use Rattle.sbp_world.specs.Hosts.Reads.{IsReadBy, IsReadOf, IsSaid, MemoryLaw}
 use Rattle.sbp_world.proofs.Hosts.ByteRuns.{Bytes, bytes_between, bytes_of_runs, holds_bytes}
 use Rattle.sbp_world.proofs.Hosts.ResponseTells.{inside_by}
 use Rattle.sbp_world.proofs.Hosts.Fair.{fair_between, fair_of_runs}

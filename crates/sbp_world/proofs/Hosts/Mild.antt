@@ -1,25 +1,8 @@
 -- A node that asks for no write of a quadlet sends none: neither its requests nor its responses spell one.
-use Rattle.std.proofs.Common.{arith, ◌≡◌, refl, ◌∙◌, ap, ℕ, ◌+◌, ◌*◌, ◌/◌, ◌%◌, ◌^◌, ◌<◌, ◌==◌, Bool, true, false, cond, List, [], ◌∷◌, ◌++◌, Option, Some, None}
-use Rattle.std.specs.List.{AllByRecursion}
-use Rattle.async_packet.specs.declared.fault.PacketFault.{PacketFault}
-use Rattle.async_packet.specs.Canon.{canon, four, three}
-use Rattle.async_packet.specs.Faults.{fault_of}
-use Rattle.async_packet.specs.Fields.{tcode_of}
-use Rattle.async_packet.specs.Packet.{Packet, lock, lock_response, read_block, read_block_response, read_quadlet, read_quadlet_response, write_block, write_quadlet, write_response}
-use Rattle.async_packet.specs.Reading.{packet_in, reading, unless_fault}
-use Rattle.byteorder.specs.Endian.{big_bytes, big_number}
-use Rattle.byteorder.specs.Numbers.{big_from-bytes}
-use Rattle.label_table.specs.declared.judgement.Asked.{Asked}
-use Rattle.label_table.specs.Bodies.{Body, block_read, block_write, header_to, quadlet_read, quadlet_write, request_with, response_to}
-use Rattle.label_table.specs.Layer.{Layer, asked_at, asking_in, asking_step, peer_at, peer_place, unlabelled}
-use Rattle.label_table.specs.Peers.{begun_for}
-use Rattle.label_table.specs.Requests.{with_label}
-use Rattle.label_table.specs.Table.{begin_at, begin_step, lowest_from}
-use Rattle.sbp_journal.specs.declared.outbox.Outgoing.{Outgoing}
-use Rattle.sbp_journal.specs.Outgoings.{OutboxState}
-use Rattle.sbp_laws.specs.Packets.{spelled_by}
-use Rattle.sbp_world.specs.Hosts.Bytes.{writes_quadlet}
-use Rattle.sbp_world.specs.Hosts.Handing.{AreOthers}
+use Rattle.sbp_world.proofs.Words.Std.{arith, ◌≡◌, refl, ◌∙◌, ap, ℕ, ◌+◌, ◌*◌, ◌/◌, ◌%◌, ◌^◌, ◌<◌, ◌==◌, Bool, true, false, cond, List, [], ◌∷◌, ◌++◌, Option, Some, None, AllByRecursion, big_bytes, big_number, big_from-bytes}
+use Rattle.sbp_world.proofs.Words.Wire.{PacketFault, canon, four, three, fault_of, tcode_of, Packet, lock, lock_response, read_block, read_block_response, read_quadlet, read_quadlet_response, write_block, write_quadlet, write_response, packet_in, reading, unless_fault, Asked, Body, block_read, block_write, header_to, quadlet_read, quadlet_write, request_with, response_to, Layer, asked_at, asking_in, asking_step, peer_at, peer_place, unlabelled, begun_for, with_label, begin_at, begin_step, lowest_from, Outgoing, OutboxState}
+use Rattle.sbp_world.proofs.Words.Laws.{spelled_by}
+use Rattle.sbp_world.proofs.Words.World.{writes_quadlet, AreOthers}
 
 -- bytes whose tcode is none of a write of a quadlet
 abbrev pub IsMild : List ℕ → Type 0

@@ -1,22 +1,8 @@
 -- An action leaves its initiator's number.
-use Rattle.std.proofs.Common.{◌≡◌, refl, ◌∙◌, ℕ, ◌==◌, Bool, true, false, cond, Option, Some, None}
-use Rattle.label_table.specs.declared.judgement.Asked.{Asked}
-use Rattle.label_table.specs.Layer.{Layer}
-use Rattle.orb_list.specs.declared.list.PresentList.{PresentList}
-use Rattle.orb_list.specs.Tickets.{TicketParts}
-use Rattle.orb_list.specs.Table.{find_in}
-use Rattle.sbp_journal.specs.Outgoings.{OutboxState}
-use Rattle.sbp_journal.specs.declared.event.Action.{Action}
+use Rattle.sbp_world.proofs.Words.Std.{◌≡◌, refl, ◌∙◌, ℕ, ◌==◌, Bool, true, false, cond, Option, Some, None}
+use Rattle.sbp_world.proofs.Words.Wire.{Asked, Layer, OutboxState, Action, Cmd}
+use Rattle.sbp_world.proofs.Words.Initiator.{PresentList, TicketParts, find_in, Demand, Purpose, InitiatorState, ListState, high_lists, low_lists, put_lists, refusal, is_unwritten, act_step, append_step, asked_as, asked_for, demand_of, demanded_as, done_step, dummy_for, facts_with, judged_as, link_as, link_step, login_id, low_as, low_step, managed_by, orb_by, pinned_for, put_as, put_step, ring_for}
 use Rattle.sbp_journal.specs.declared.event.Action.TheVariants as actions
-use Rattle.sbp_journal.specs.declared.event.Cmd.{Cmd}
-use Rattle.sbp_initiator.specs.declared.purpose.Demand.{Demand}
-use Rattle.sbp_initiator.specs.declared.purpose.Purpose.{Purpose}
-use Rattle.sbp_initiator.specs.declared.state.InitiatorState.{InitiatorState}
-use Rattle.orb_list.specs.Lists.{ListState, high_lists, low_lists}
-use Rattle.sbp_initiator.specs.Commands.{put_lists}
-use Rattle.sbp_initiator.specs.Refusals.{refusal}
-use Rattle.sbp_initiator.specs.States.{is_unwritten}
-use Rattle.sbp_initiator.specs.Acting.{act_step, append_step, asked_as, asked_for, demand_of, demanded_as, done_step, dummy_for, facts_with, judged_as, link_as, link_step, login_id, low_as, low_step, managed_by, orb_by, pinned_for, put_as, put_step, ring_for}
 use Rattle.sbp_journal.specs.declared.operation.Operation.TheVariants as operations
 
 pick : (b : Bool) (x y : InitiatorState) (n : ℕ) → x.number ≡ n → y.number ≡ n → (cond b x y).number ≡ n

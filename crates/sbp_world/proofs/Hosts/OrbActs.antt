@@ -1,37 +1,17 @@
 -- What an action that is done does to the slots, and what it tells of the ORBs.
-use Rattle.std.proofs.Common.{arith, ◌≡◌, refl, sym, ap, subst, ◌∙◌, ℕ, suc, ◌+◌, ◌-◌, ◌==◌, not, is_some, true, false, List, [], ◌∷◌, ◌++◌, Option, Some, None, Ok}
-use Rattle.std.proofs.lemmas.Bool.{not-false}
+use Rattle.sbp_world.proofs.Words.Std.{arith, ◌≡◌, refl, sym, ap, subst, ◌∙◌, ℕ, suc, ◌+◌, ◌-◌, ◌==◌, not, is_some, true, false, List, [], ◌∷◌, ◌++◌, Option, Some, None, Ok, not-false}
+use Rattle.sbp_world.proofs.Words.Wire.{buffer_of, Moment, said, terms, Action, Cmd, Note}
+use Rattle.sbp_world.proofs.Words.Initiator.{Linking, PresentList, if_some, run, SlotTable, find_in, list_number, may_prepare, next_ticket, orb_number, waits_high, waits_low, TicketParts, asked_by, InitiatorState, login_id, orb_by, place_of, own, action_calls, dummy_calls, orb_calls, pin_calls}
+use Rattle.sbp_world.proofs.Words.Laws.{action_notes, append_notes, new_list, new_number, cmd_of, id_of, event_of}
+use Rattle.sbp_world.proofs.Words.World.{behind, AreRows, ReadAs}
 use Rattle.orb_list.specs.declared.list.Link.TheVariants as links
-use Rattle.orb_list.specs.declared.list.Linking.{Linking}
-use Rattle.orb_list.specs.declared.list.PresentList.{PresentList}
 use Rattle.orb_list.specs.Runs as slot_runs
-use Rattle.orb_list.specs.Runs.{if_some, run}
 use Rattle.orb_list.specs.Table as table
-use Rattle.orb_list.specs.Table.{SlotTable, find_in, list_number, may_prepare, next_ticket, orb_number, waits_high, waits_low}
-use Rattle.orb_list.specs.Tickets.{TicketParts}
-use Rattle.sbp_initiator.specs.Commands.{asked_by}
-use Rattle.sbp_initiator.specs.declared.state.InitiatorState.{InitiatorState}
-use Rattle.sbp_initiator.specs.Acting.{login_id, orb_by}
-use Rattle.sbp_initiator.specs.States.{place_of}
-use Rattle.sbp_journal.specs.Buffers.{buffer_of}
-use Rattle.sbp_journal.specs.Run.{Moment, said}
-use Rattle.sbp_journal.specs.Wire.{terms}
-use Rattle.sbp_journal.specs.declared.event.Action.{Action}
 use Rattle.sbp_journal.specs.declared.event.Action.TheVariants as actions
-use Rattle.sbp_journal.specs.declared.event.Cmd.{Cmd}
 use Rattle.sbp_journal.specs.declared.event.Event.TheVariants as events
-use Rattle.sbp_journal.specs.declared.note.Note.{Note}
 use Rattle.sbp_journal.specs.declared.note.Note.TheVariants as notes
-use Rattle.sbp_laws.specs.Actions.{action_notes, append_notes, new_list, new_number}
-use Rattle.sbp_laws.specs.Lists.{cmd_of}
-use Rattle.sbp_laws.specs.Packets.{id_of}
-use Rattle.sbp_laws.specs.Turns.{event_of}
-use Rattle.sbp_initiator.specs.Histories.Ends.{own}
-use Rattle.sbp_initiator.specs.Histories.Slots.{action_calls, dummy_calls, orb_calls, pin_calls}
 use Rattle.sbp_initiator.proofs.Histories.Actions.{is_ok}
-use Rattle.sbp_world.specs.Hosts.Calls.{behind}
-use Rattle.sbp_world.specs.Hosts.Fits.{AreRows, IsOf}
-use Rattle.sbp_world.specs.Hosts.Reading.{ReadAs}
+use Rattle.sbp_world.specs.Hosts.Fits.{IsOf}
 use Rattle.sbp_world.proofs.Hosts.Acts.{Goes, found_number, some_waits}
 use Rattle.sbp_world.proofs.Hosts.Beside.{find_waits, found_list}
 use Rattle.sbp_world.proofs.Hosts.OrbAppends.{append_fits, append_none, prepared_table}

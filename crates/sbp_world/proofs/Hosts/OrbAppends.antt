@@ -1,31 +1,14 @@
 -- An ORB is prepared, and its append is told.
-use Rattle.std.proofs.Common.{arith, ◌≡◌, refl, sym, ap, subst, ◌∙◌, ℕ, zero, suc, ◌+◌, ◌-◌, ◌<◌, ◌≤◌, ◌==◌, ◌&&◌, nat_eq, nat_le, nat_lt, Bool, true, false, cond, List, ◌∷◌, Option, Some, None, Ok}
-use Rattle.std.proofs.lemmas.Bool.Decides.{nat_tests}
+use Rattle.sbp_world.proofs.Words.Std.{arith, ◌≡◌, refl, sym, ap, subst, ◌∙◌, ℕ, zero, suc, ◌+◌, ◌-◌, ◌<◌, ◌≤◌, ◌==◌, ◌&&◌, nat_eq, nat_le, nat_lt, Bool, true, false, cond, List, ◌∷◌, Option, Some, None, Ok, nat_tests}
+use Rattle.sbp_world.proofs.Words.Wire.{buffer_of, Moment, said, terms, Cmd}
+use Rattle.sbp_world.proofs.Words.Initiator.{start, OrbPointer, Null, At, Link, PresentList, Kept, kept_in, new_kept, Asked, Prepare, Note, Prepared, if_ok, run, SlotTable, added, list_number, may_prepare, next_ticket, orb_number, slot_in, TicketParts, asked_by}
+use Rattle.sbp_world.proofs.Words.Laws.{cmd_of, lowest_vacant, slots, id_of, Request, appends, event_of}
+use Rattle.sbp_world.proofs.Words.World.{AreRows, IfLast, IfList, LastFits, LoweredFits, linked_by, terms_at, request_of}
 use Rattle.bus_memory.specs.declared.window.Window.TheVariants as windows
-use Rattle.bus_memory.specs.Windows.{start}
-use Rattle.orb_layout.specs.declared.pointer.OrbPointer.{OrbPointer}
-use Rattle.orb_layout.specs.declared.pointer.OrbPointer.TheVariants.{Null, At}
-use Rattle.orb_list.specs.declared.list.Link.{Link}
 use Rattle.orb_list.specs.declared.list.Link.TheVariants as links
-use Rattle.orb_list.specs.declared.list.PresentList.{PresentList}
-use Rattle.orb_list.specs.Kept.{Kept, kept_in, new_kept}
-use Rattle.orb_list.specs.Requests.{Asked}
-use Rattle.orb_list.specs.Runs.{Call, Prepare, Note, Prepared, if_ok, run}
+use Rattle.orb_list.specs.Runs.{Call}
 use Rattle.orb_list.specs.Table as table
-use Rattle.orb_list.specs.Table.{SlotTable, added, list_number, may_prepare, next_ticket, orb_number, slot_in}
-use Rattle.orb_list.specs.Tickets.{TicketParts}
-use Rattle.sbp_initiator.specs.Commands.{asked_by}
-use Rattle.sbp_journal.specs.Buffers.{buffer_of}
-use Rattle.sbp_journal.specs.Run.{Moment, said}
-use Rattle.sbp_journal.specs.Wire.{terms}
-use Rattle.sbp_journal.specs.declared.event.Cmd.{Cmd}
 use Rattle.sbp_journal.specs.declared.note.Note.TheVariants as notes
-use Rattle.sbp_laws.specs.Lists.{cmd_of, lowest_vacant, slots}
-use Rattle.sbp_laws.specs.Packets.{id_of}
-use Rattle.sbp_laws.specs.Terms.{Request, appends}
-use Rattle.sbp_laws.specs.Turns.{event_of}
-use Rattle.sbp_world.specs.Hosts.Fits.{AreRows, IfLast, IfList, LastFits, LoweredFits, linked_by, terms_at}
-use Rattle.sbp_world.specs.Hosts.Orbs.{request_of}
 use Rattle.sbp_world.proofs.Hosts.Chains.{Same, chained_run}
 use Rattle.sbp_world.proofs.Hosts.OrbFits.{AllFit, IfFits, IsFull, NoneYet, OrbFits, low_to}
 use Rattle.sbp_world.proofs.Hosts.OrbTerms.{OrbTerms, append_first, append_next, first_linked, orb_terms, with_append}

@@ -1,25 +1,10 @@
 -- The calls of an initiator's slots that prepare, link and dummy no ORB.
-use Rattle.std.proofs.Common.{ℕ, zero, suc, nat_lt, Bool, true, false, cond, List, [], ◌∷◌, Option, Some, None}
-use Rattle.byteorder.specs.Endian.{big_bytes}
-use Rattle.async_packet.specs.Labels.{LabelParts}
-use Rattle.async_packet.specs.Packet.{Packet, lock, lock_response, read_block, read_block_response, read_quadlet, read_quadlet_response, write_block, write_quadlet, write_response}
-use Rattle.label_table.specs.Layer.{Finding, judging_step, of_again, of_generation, of_grammar, of_label, of_request, of_response}
-use Rattle.orb_layout.specs.declared.management.ManagementOrb.{ManagementOrb}
-use Rattle.orb_layout.specs.declared.status.StatusBlock.{StatusBlock}
-use Rattle.orb_layout.specs.declared.status.StatusKind.{StatusKind}
+use Rattle.sbp_world.proofs.Words.Std.{ℕ, zero, suc, nat_lt, Bool, true, false, cond, List, [], ◌∷◌, Option, Some, None, big_bytes}
+use Rattle.sbp_world.proofs.Words.Wire.{LabelParts, Packet, lock, lock_response, read_block, read_block_response, read_quadlet, read_quadlet_response, write_block, write_quadlet, write_response, Finding, judging_step, of_again, of_generation, of_grammar, of_label, of_request, of_response}
+use Rattle.sbp_world.proofs.Words.Initiator.{ManagementOrb, StatusBlock, StatusKind, management_bytes, TicketParts, Fifo, Purpose, InitiatorState, Turn, fifo_of, is_foreign, done, lets_expire, receives, sees, block_calls, block_writes, drop_calls, has_ended, heard_calls, orb_calls, pin_calls, quad_calls, quadlet_writes, request_calls, slot_calls, status_calls, unpin_calls, write_calls, written_by, Brought, brought, finding_drops, nothing, status, unsolicited}
 use Rattle.orb_layout.specs.declared.status.StatusKind.TheVariants as kinds
-use Rattle.orb_layout.specs.ManagementOrbs.{management_bytes}
 use Rattle.orb_list.specs.Runs as slot_runs
-use Rattle.orb_list.specs.Tickets.{TicketParts}
-use Rattle.initiator_base.specs.declared.fifos.Fifo.{Fifo}
 use Rattle.initiator_base.specs.declared.fifos.Fifo.TheVariants as fifos
-use Rattle.sbp_initiator.specs.declared.purpose.Purpose.{Purpose}
-use Rattle.sbp_initiator.specs.declared.state.InitiatorState.{InitiatorState}
-use Rattle.sbp_initiator.specs.Effects.{Turn}
-use Rattle.sbp_initiator.specs.Receiving.{fifo_of, is_foreign}
-use Rattle.sbp_initiator.specs.Histories.Laws.{done, lets_expire, receives, sees}
-use Rattle.sbp_initiator.specs.Histories.Slots.{block_calls, block_writes, drop_calls, has_ended, heard_calls, orb_calls, pin_calls, quad_calls, quadlet_writes, request_calls, slot_calls, status_calls, unpin_calls, write_calls, written_by}
-use Rattle.sbp_initiator.specs.Histories.Taking.{Brought, brought, finding_drops, nothing, status, unsolicited}
 use Rattle.sbp_world.proofs.Hosts.OrbFits.{AreQuiet, quiet_append}
 
 -- ---- an action

@@ -1,20 +1,11 @@
 -- The ORBs of the slots, and what the history says of them; and the calls of the slots that leave that.
-use Rattle.std.proofs.Common.{◌≡◌, refl, sym, subst, ℕ, suc, ◌<◌, ◌≤◌, nat_le, nat_lt, false, cond, List, [], ◌∷◌, ◌++◌, Option, Some, None, Result, Ok, Err}
-use Rattle.bus_memory.specs.Memory.{Memory}
+use Rattle.sbp_world.proofs.Words.Std.{◌≡◌, refl, sym, subst, ℕ, suc, ◌<◌, ◌≤◌, nat_le, nat_lt, false, cond, List, [], ◌∷◌, ◌++◌, Option, Some, None, Result, Ok, Err}
+use Rattle.sbp_world.proofs.Words.Wire.{Cmd}
+use Rattle.sbp_world.proofs.Words.Initiator.{Memory, start, OrbPointer, Null, At, pointer_low, ListFault, Kept, kept_in, Prepare, LinkLow, LinkHigh, MakeDummy, TakeStatus, DropList, FreeAll, Pin, Unpin, TryWrite, Fill, SetQuad, Note, Taken, Dropped, Pinned, Unpinned, if_ok, if_some, noted_by, run, SlotTable, IsCommand, asked_by}
+use Rattle.sbp_world.proofs.Words.World.{FillsBuffer, request_of}
 use Rattle.bus_memory.specs.declared.window.Window.TheVariants as windows
-use Rattle.bus_memory.specs.Windows.{start}
-use Rattle.orb_layout.specs.declared.pointer.OrbPointer.{OrbPointer}
-use Rattle.orb_layout.specs.declared.pointer.OrbPointer.TheVariants.{Null, At}
-use Rattle.orb_layout.specs.Pointers.{pointer_low}
-use Rattle.orb_list.specs.declared.fault.ListFault.{ListFault}
-use Rattle.orb_list.specs.Kept.{Kept, kept_in}
-use Rattle.orb_list.specs.Runs.{Call, Prepare, LinkLow, LinkHigh, MakeDummy, TakeStatus, DropList, FreeAll, Pin, Unpin, TryWrite, Fill, SetQuad, Note, Taken, Dropped, Pinned, Unpinned, if_ok, if_some, noted_by, run}
+use Rattle.orb_list.specs.Runs.{Call}
 use Rattle.orb_list.specs.Table as table
-use Rattle.orb_list.specs.Table.{SlotTable}
-use Rattle.sbp_initiator.specs.Commands.{IsCommand, asked_by}
-use Rattle.sbp_journal.specs.declared.event.Cmd.{Cmd}
-use Rattle.sbp_world.specs.Wire.Lines.{FillsBuffer}
-use Rattle.sbp_world.specs.Hosts.Orbs.{request_of}
 use Rattle.sbp_world.proofs.Hosts.OrbTerms.{OrbTerms}
 
 -- the next pointer and the format that the history says

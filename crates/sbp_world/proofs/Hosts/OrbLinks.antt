@@ -1,25 +1,15 @@
 -- An ORB is linked, or becomes a dummy, and that is told.
-use Rattle.std.proofs.Common.{arith, ◌≡◌, refl, sym, ap, subst, ◌∙◌, ℕ, suc, ◌<◌, ◌==◌, nat_eq, nat_le, nat_lt, Bool, true, false, cond, List, ◌∷◌, length, Option, Some, None}
-use Rattle.std.proofs.lemmas.Bool.Decides.{nat_tests}
+use Rattle.sbp_world.proofs.Words.Std.{arith, ◌≡◌, refl, sym, ap, subst, ◌∙◌, ℕ, suc, ◌<◌, ◌==◌, nat_eq, nat_le, nat_lt, Bool, true, false, cond, List, ◌∷◌, length, Option, Some, None, nat_tests}
+use Rattle.sbp_world.proofs.Words.Wire.{Moment, said}
+use Rattle.sbp_world.proofs.Words.Initiator.{start, OrbPointer, Null, At, Link, Linking, PresentList, HoldsLink, HoldsList, HoldsPresent, IsBefore, Kept, in_slot, is_dummy, kept_in, low_is, next_is, LinkHigh, LinkLow, MakeDummy, Note, LowWritten, Linked, Dummied, if_ok, if_some, run, SlotTable, find_in, slot_in, waiting, waits_high, waits_low, TicketParts}
+use Rattle.sbp_world.proofs.Words.World.{AreRows, IfList, ListFits, LoweredFits, linked_by, terms_at}
 use Rattle.bus_memory.specs.declared.window.Window.TheVariants as windows
-use Rattle.bus_memory.specs.Windows.{start}
-use Rattle.orb_layout.specs.declared.pointer.OrbPointer.{OrbPointer}
-use Rattle.orb_layout.specs.declared.pointer.OrbPointer.TheVariants.{Null, At}
-use Rattle.orb_list.specs.declared.list.Link.{Link}
 use Rattle.orb_list.specs.declared.list.Link.TheVariants as links
-use Rattle.orb_list.specs.declared.list.Linking.{Linking}
-use Rattle.orb_list.specs.declared.list.PresentList.{PresentList}
-use Rattle.orb_list.specs.Holds.{HoldsLink, HoldsList, HoldsPresent, IsBefore}
-use Rattle.orb_list.specs.Kept.{Kept, in_slot, is_dummy, kept_in, low_is, next_is}
-use Rattle.orb_list.specs.Runs.{Call, LinkHigh, LinkLow, MakeDummy, Note, LowWritten, Linked, Dummied, if_ok, if_some, run}
+use Rattle.orb_list.specs.Runs.{Call}
 use Rattle.orb_list.specs.Table as table
-use Rattle.orb_list.specs.Table.{SlotTable, find_in, slot_in, waiting, waits_high, waits_low}
-use Rattle.orb_list.specs.Tickets.{TicketParts}
 use Rattle.orb_list.proofs.Steps.{held_law}
 use Rattle.orb_list.proofs.Tied.{waits_last}
-use Rattle.sbp_journal.specs.Run.{Moment, said}
 use Rattle.sbp_journal.specs.declared.note.Note.TheVariants as notes
-use Rattle.sbp_world.specs.Hosts.Fits.{AreRows, IfList, ListFits, LoweredFits, linked_by, terms_at}
 use Rattle.sbp_world.proofs.Hosts.Beside.{find_waits, found_checked, found_here, found_list, found_small, no_fault}
 use Rattle.sbp_world.proofs.Hosts.Chains.{Same, chained_run}
 use Rattle.sbp_world.proofs.Hosts.Over.{last_at}

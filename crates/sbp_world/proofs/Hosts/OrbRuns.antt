@@ -1,52 +1,19 @@
 -- The ORBs of an initiator's slots fit the history of a run, behind each of its lines and deliveries.
-use Rattle.std.proofs.Common.{arith, ◌+◌, ◌≤◌, nat_eq, cond, length, ◌≡◌, refl, sym, ap, subst, ◌∙◌, ℕ, suc, ◌<◌, ◌==◌, Bool, true, false, List, [], ◌∷◌, ◌++◌, map, Option, Some, None}
-use Rattle.async_packet.specs.Labels.{LabelParts}
-use Rattle.label_table.specs.declared.judgement.Asked.{Asked as Label}
-use Rattle.label_table.specs.Layer.{Layer}
+use Rattle.sbp_world.proofs.Words.Std.{arith, ◌+◌, ◌≤◌, nat_eq, cond, length, ◌≡◌, refl, sym, ap, subst, ◌∙◌, ℕ, suc, ◌<◌, ◌==◌, Bool, true, false, List, [], ◌∷◌, ◌++◌, map, Option, Some, None, nat_tests}
+use Rattle.sbp_world.proofs.Words.Wire.{LabelParts, Label, Layer, judged_note, Moment, asked, said, OutboxState, empty_outbox, Terms, ids_of, terms, Action, Event, Note, Node}
+use Rattle.sbp_world.proofs.Words.Target.{Told}
+use Rattle.sbp_world.proofs.Words.Initiator.{run, Demand, Purpose, InitiatorState, act_step, asked_as, asked_for, demand_of, demanded_as, facts_with, judged_as, Turn, new_state, own_rom, expire_step, receive_step, refusal, see_step, own, AreCalls, Call, IsCall, acts, after, done, lets_expire, receives, sees, action_calls, calls_if, slot_calls, slot_calls_after}
+use Rattle.sbp_world.proofs.Words.Laws.{action_notes, id_of, event_of}
+use Rattle.sbp_world.proofs.Words.World.{history_of, Run, world_after, beginning, MayAll, after_all, WorldState, begun, initiator_at, Stands, history, behind, AreRows, IsRun, more_deliveries}
 use Rattle.orb_list.specs.Runs as slot_runs
-use Rattle.orb_list.specs.Runs.{run}
-use Rattle.rbc_disk.specs.Runs.{Told}
-use Rattle.sbp_initiator.specs.declared.purpose.Demand.{Demand}
-use Rattle.sbp_initiator.specs.declared.purpose.Purpose.{Purpose}
-use Rattle.sbp_initiator.specs.declared.state.InitiatorState.{InitiatorState}
-use Rattle.sbp_initiator.specs.Acting.{act_step, asked_as, asked_for, demand_of, demanded_as, facts_with, judged_as}
-use Rattle.sbp_initiator.specs.Effects.{Turn}
-use Rattle.sbp_initiator.specs.Initiators.{new_state, own_rom}
-use Rattle.sbp_initiator.specs.Receiving.{expire_step, receive_step}
-use Rattle.sbp_initiator.specs.Refusals.{refusal}
-use Rattle.sbp_initiator.specs.Seeing.{see_step}
-use Rattle.sbp_bus.specs.Packets.{judged_note}
-use Rattle.sbp_journal.specs.Run.{Moment, asked, said}
-use Rattle.sbp_journal.specs.Outgoings.{OutboxState, empty_outbox}
-use Rattle.sbp_journal.specs.Wire.{Terms, ids_of, terms}
-use Rattle.sbp_journal.specs.declared.event.Action.{Action}
-use Rattle.sbp_journal.specs.declared.event.Event.{Event}
 use Rattle.sbp_journal.specs.declared.event.Event.TheVariants as events
-use Rattle.sbp_journal.specs.declared.note.Note.{Note}
 use Rattle.sbp_journal.specs.declared.note.Note.TheVariants as notes
-use Rattle.sbp_laws.specs.Actions.{action_notes}
-use Rattle.sbp_laws.specs.Packets.{id_of}
-use Rattle.sbp_laws.specs.Turns.{event_of}
-use Rattle.sbp_world.specs.Histories.{history_of}
-use Rattle.sbp_world.specs.Runs.{Run, after as world_after, beginning}
-use Rattle.sbp_world.specs.Settling.{MayAll, after_all}
-use Rattle.sbp_world.specs.Worlds.{WorldState, begun, initiator_at}
-use Rattle.sbp_world.specs.Wire.Wires.{Stands}
 use Rattle.sbp_world.proofs.FitInitiator.Law.{fitting_law as own_fitting_law}
 use Rattle.sbp_world.proofs.FitTarget.Law.{fitting_law}
 use Rattle.sbp_world.proofs.Wire.Bus.{aged, holds}
 use Rattle.sbp_world.proofs.Wire.Runs.{sound_after}
-use Rattle.bus_transactions.specs.Wire.{Node}
-use Rattle.std.proofs.lemmas.Bool.Decides.{nat_tests}
-use Rattle.sbp_world.specs.Hosts.Handing.{history}
-use Rattle.sbp_initiator.specs.Histories.Ends.{own}
-use Rattle.sbp_initiator.specs.Histories.Laws.{AreCalls, Call, IsCall, acts, after, done, lets_expire, receives, sees}
-use Rattle.sbp_initiator.specs.Histories.Slots.{action_calls, calls_if, slot_calls, slot_calls_after}
 use Rattle.sbp_initiator.proofs.Histories.Slotted.{slot_law}
-use Rattle.sbp_world.specs.Hosts.Calls.{behind}
-use Rattle.sbp_world.specs.Hosts.Fits.{AreRows}
 use Rattle.sbp_world.specs.Hosts.Refusing.{initiator_of}
-use Rattle.sbp_world.specs.Hosts.Runs.{IsRun, more_deliveries}
 use Rattle.sbp_world.proofs.Hosts.Acts.{Goes, goes_on}
 use Rattle.sbp_world.proofs.Hosts.Alone.{call_same}
 use Rattle.sbp_world.proofs.Hosts.Carried.{Knows, between_runs, of_runs}

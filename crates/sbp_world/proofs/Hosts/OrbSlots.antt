@@ -1,20 +1,11 @@
 -- A slot that no ORB was prepared in is free.
-use Rattle.std.proofs.Common.{◌≡◌, refl, sym, ◌∙◌, ℕ, zero, suc, Bool, true, false, cond, List, [], ◌∷◌, map, replicate, slice_set, Option, Some, None, Result, Ok, Err}
-use Rattle.bus_memory.specs.Memory.{Memory}
-use Rattle.bus_memory.specs.Windows.{slot_of}
-use Rattle.orb_layout.specs.declared.status.StatusBlock.{StatusBlock}
-use Rattle.orb_list.specs.declared.fault.ListFault.{ListFault}
+use Rattle.sbp_world.proofs.Words.Std.{◌≡◌, refl, sym, ◌∙◌, ℕ, zero, suc, Bool, true, false, cond, List, [], ◌∷◌, map, replicate, Option, Some, None, Result, Ok, Err}
+use Rattle.sbp_world.proofs.Words.Initiator.{Memory, slot_of, StatusBlock, ListFault, Linking, PresentList, SlotState, Slot, Asked, Prepare, LinkLow, LinkHigh, MakeDummy, TakeStatus, DropList, FreeAll, Pin, Unpin, TryWrite, Fill, SetQuad, left_by, run, SlotTable, freed, is_free, is_over, may_prepare, new_table, released, rested, slot_in, state_after, unused, waiting, waits_in, TicketParts}
+use Rattle.std.proofs.Common.{slice_set}
 use Rattle.orb_list.specs.declared.list.Link.TheVariants as links
-use Rattle.orb_list.specs.declared.list.Linking.{Linking}
-use Rattle.orb_list.specs.declared.list.PresentList.{PresentList}
-use Rattle.orb_list.specs.declared.slot.SlotState.{SlotState}
 use Rattle.orb_list.specs.declared.slot.SlotState.TheVariants as states
-use Rattle.orb_list.specs.declared.slot.Slot.{Slot}
-use Rattle.orb_list.specs.Requests.{Asked}
-use Rattle.orb_list.specs.Runs.{Call, Prepare, LinkLow, LinkHigh, MakeDummy, TakeStatus, DropList, FreeAll, Pin, Unpin, TryWrite, Fill, SetQuad, left_by, run}
+use Rattle.orb_list.specs.Runs.{Call}
 use Rattle.orb_list.specs.Table as table
-use Rattle.orb_list.specs.Table.{SlotTable, freed, is_free, is_over, may_prepare, new_table, released, rested, slot_in, state_after, unused, waiting, waits_in}
-use Rattle.orb_list.specs.Tickets.{TicketParts}
 
 -- a slot has an ORB, or is free
 abbrev pub HasLast : Slot → Type 0

@@ -1,23 +1,9 @@
 -- The bytes of an ORB in a slot are read as that ORB.
-use Rattle.std.proofs.Common.{arith, ◌≡◌, refl, sym, ap, subst, ◌∙◌, ℕ, ◌+◌, ◌*◌, ◌/◌, ◌%◌, ◌^◌, ◌<◌, ◌≤◌, ◌==◌, ◌&&◌, nat_lt, Bool, true, false, cond, List, [], ◌∷◌, ◌++◌, length, take, drop}
-use Rattle.std.proofs.lemmas.Bool.Decides.{nat_tests}
-use Rattle.std.proofs.lemmas.List.{take_all}
-use Rattle.byteorder.specs.Endian.{big_bytes}
-use Rattle.sbp_base.specs.Quadlets.{quad}
-use Rattle.bus_memory.specs.declared.slot.SlotMemory.{SlotMemory}
-use Rattle.orb_layout.specs.declared.command.CommandOrb.{CommandOrb}
-use Rattle.orb_layout.specs.declared.pointer.OrbPointer.{OrbPointer}
-use Rattle.orb_layout.specs.CommandOrbs.{CommandFits, command_bytes, command_options, command_orb}
-use Rattle.orb_layout.specs.Pointers.{bit, flag, node_at, offset_at, pointer_at, pointer_high}
-use Rattle.orb_list.specs.Kept.{HoldsOrb, Kept, orb_now}
-use Rattle.orb_list.specs.Layout.{data_size, data_start, orb_of}
-use Rattle.orb_list.specs.Requests.{Asked, IsRequest}
-use Rattle.sbp_initiator.specs.Commands.{asked_by}
-use Rattle.sbp_journal.specs.Buffers.{buffer_of, in_buffer, out_buffer}
-use Rattle.sbp_journal.specs.declared.event.Cmd.{Cmd}
-use Rattle.sbp_journal.specs.declared.note.NoteBuffer.TheVariants.{In, Nothing}
-use Rattle.sbp_laws.specs.Terms.{plan_of}
-use Rattle.sbp_world.specs.Hosts.Orbs.{orb_for}
+use Rattle.sbp_world.proofs.Words.Std.{arith, ◌≡◌, refl, sym, ap, subst, ◌∙◌, ℕ, ◌+◌, ◌*◌, ◌/◌, ◌%◌, ◌^◌, ◌<◌, ◌≤◌, ◌==◌, ◌&&◌, nat_lt, Bool, true, false, cond, List, [], ◌∷◌, ◌++◌, length, take, drop, nat_tests, take_all, big_bytes, quad}
+use Rattle.sbp_world.proofs.Words.Wire.{buffer_of, in_buffer, out_buffer, Cmd, In, Nothing}
+use Rattle.sbp_world.proofs.Words.Initiator.{SlotMemory, CommandOrb, OrbPointer, CommandFits, command_bytes, command_options, command_orb, bit, flag, node_at, offset_at, pointer_at, pointer_high, HoldsOrb, Kept, orb_now, data_size, data_start, orb_of, Asked, IsRequest, asked_by}
+use Rattle.sbp_world.proofs.Words.Laws.{plan_of}
+use Rattle.sbp_world.proofs.Words.World.{orb_for}
 use Rattle.sbp_world.proofs.Hosts.OrbFits.{OrbFits, format_in, next_in}
 use Rattle.sbp_world.proofs.Hosts.OrbTerms.{OrbTerms}
 

@@ -1,27 +1,14 @@
 -- The page table and the buffer of an ORB in a slot, as the target reads them.
-use Rattle.std.proofs.Common.{arith, ◌≡◌, refl, sym, ap, subst, ◌∙◌, ℕ, ◌+◌, ◌-◌, ◌^◌, ◌<◌, ◌≤◌, ◌==◌, ◌||◌, nat_lt, sum, Bool, true, false, cond, List, [], ◌∷◌, length, take, drop, Option, Some, None, Err}
-use Rattle.std.proofs.lemmas.Bool.Decides.{nat_tests}
-use Rattle.std.proofs.lemmas.List.Sums.{sum_by-cons}
-use Rattle.std.specs.List.{AllByRecursion}
-use Rattle.bus_memory.specs.Access.{judged, judged_at, read_at as read_as, read_step, spot_in, spot_of}
-use Rattle.bus_memory.specs.Memory.{Memory, slot_at}
-use Rattle.bus_memory.specs.Windows.{is_fifo, start}
+use Rattle.sbp_world.proofs.Words.Std.{arith, ◌≡◌, refl, sym, ap, subst, ◌∙◌, ℕ, ◌+◌, ◌-◌, ◌^◌, ◌<◌, ◌≤◌, ◌==◌, ◌||◌, nat_lt, sum, Bool, true, false, cond, List, [], ◌∷◌, length, take, drop, Option, Some, None, Err, nat_tests, sum_by-cons, AllByRecursion}
+use Rattle.sbp_world.proofs.Words.Wire.{Cmd}
+use Rattle.sbp_world.proofs.Words.Initiator.{judged, judged_at, read_step, spot_in, spot_of, Memory, slot_at, is_fifo, start, TypeError, Window, OrbPointer, behind, data_size, data_start, has_table, table_bytes, segments_of, bytes_of, single, elements_of, Segment, IsCommand}
+use Rattle.sbp_world.proofs.Words.Laws.{Moved, buffer_in, laid_out, placed, read_at}
+use Rattle.sbp_world.proofs.Words.World.{orb_for}
+use Rattle.bus_memory.specs.Access.{read_at as read_as}
 use Rattle.bus_memory.specs.declared.access.Access.TheVariants.{Read}
-use Rattle.bus_memory.specs.declared.access.Rcode.TheVariants.{TypeError}
-use Rattle.bus_memory.specs.declared.window.Window.{Window}
 use Rattle.bus_memory.specs.declared.window.Window.TheVariants as windows
 use Rattle.bus_memory.proofs.Found.{window_here}
-use Rattle.orb_layout.specs.declared.pointer.OrbPointer.{OrbPointer}
-use Rattle.orb_list.specs.Layout.{behind, data_size, data_start, has_table, table_bytes}
-use Rattle.orb_list.specs.Tables.{segments_of}
 use Rattle.orb_list.proofs.Tables.{table_law}
-use Rattle.page_table.specs.Buffer.{bytes_of, single}
-use Rattle.page_table.specs.Elements.{elements_of}
-use Rattle.page_table.specs.declared.segment.Segment.{Segment}
-use Rattle.sbp_initiator.specs.Commands.{IsCommand}
-use Rattle.sbp_journal.specs.declared.event.Cmd.{Cmd}
-use Rattle.sbp_laws.specs.CarriedBytes.{Moved, buffer_in, laid_out, placed, read_at}
-use Rattle.sbp_world.specs.Hosts.Orbs.{orb_for}
 
 -- ---- a read of a page table
 

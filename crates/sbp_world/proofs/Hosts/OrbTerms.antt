@@ -1,22 +1,12 @@
 -- What the history says of the ORBs of an initiator, and the notes that leave it.
-use Rattle.std.proofs.Common.{◌≡◌, refl, ◌∙◌, ap, ℕ, zero, suc, ◌==◌, ◌&&◌, nat_eq, not, Bool, true, false, cond, List, [], ◌∷◌, Option, Some}
-use Rattle.std.specs.List.{AllByRecursion}
-use Rattle.std.proofs.lemmas.Bool.{not-true}
-use Rattle.sbp_journal.specs.Run.{Moment, said}
-use Rattle.sbp_journal.specs.Wire.{terms}
-use Rattle.sbp_journal.specs.declared.event.Cmd.{Cmd}
-use Rattle.sbp_journal.specs.declared.note.Note.{Note}
+use Rattle.sbp_world.proofs.Words.Std.{◌≡◌, refl, ◌∙◌, ap, ℕ, zero, suc, ◌==◌, ◌&&◌, nat_eq, not, Bool, true, false, cond, List, [], ◌∷◌, Option, Some, AllByRecursion, not-true}
+use Rattle.sbp_world.proofs.Words.Wire.{Moment, said, terms, Cmd, Note, NoteBuffer, Side}
+use Rattle.sbp_world.proofs.Words.Initiator.{own}
+use Rattle.sbp_world.proofs.Words.Laws.{cmd_of, command_at, is_dummy, linked, lowered, lowest_vacant, slot_at, slots, id_of, id_as_prepared, Request, appends, request_at, event_of}
+use Rattle.sbp_world.proofs.Words.World.{behind}
 use Rattle.sbp_journal.specs.declared.note.Note.TheVariants as notes
-use Rattle.sbp_journal.specs.declared.note.NoteBuffer.{NoteBuffer}
-use Rattle.sbp_journal.specs.declared.side.Side.{Side}
 use Rattle.sbp_journal.specs.declared.side.Side.TheVariants as sides
-use Rattle.sbp_laws.specs.Lists.{cmd_of, command_at, is_dummy, linked, lowered, lowest_vacant, slot_at, slots}
-use Rattle.sbp_laws.specs.Packets.{id_of}
-use Rattle.sbp_laws.specs.Served.{id_as_prepared}
-use Rattle.sbp_laws.specs.Terms.{Request, appends, request_at}
-use Rattle.sbp_laws.specs.Turns.{event_of}
-use Rattle.sbp_initiator.specs.Histories.Ends.{own}
-use Rattle.sbp_world.specs.Hosts.Calls.{behind, by_side}
+use Rattle.sbp_world.specs.Hosts.Calls.{by_side}
 use Rattle.sbp_world.proofs.Hosts.Carries.{is_apart}
 use Rattle.sbp_world.proofs.Common.{turned, itself}
 

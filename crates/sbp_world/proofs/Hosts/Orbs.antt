@@ -1,39 +1,18 @@
 -- In every run an initiator's memory holds its ORBs as they were appended and linked.
-use Rattle.std.proofs.Common.{arith, ◌≡◌, refl, sym, ap, subst, ◌∙◌, ℕ, ◌*◌, ◌<◌, Bool, List, length, take, slice_index_or, Option, Some, None}
-use Rattle.std.proofs.lemmas.List.{get_or-map, take_all}
-use Rattle.bus_memory.specs.Access.{read_step}
-use Rattle.bus_memory.specs.Laws.{IsWhole}
-use Rattle.bus_memory.specs.Memory.{Memory, slot_at}
+use Rattle.sbp_world.proofs.Words.Std.{arith, ◌≡◌, refl, sym, ap, subst, ◌∙◌, ℕ, ◌*◌, ◌<◌, Bool, List, length, take, Option, Some, None, take_all}
+use Rattle.sbp_world.proofs.Words.Wire.{Moment}
+use Rattle.sbp_world.proofs.Words.Initiator.{read_step, IsWhole, Memory, slot_at, start, node_at, command_orb, CommandOrb, SlotState, HoldsOrb, IfHoldsOrb, Kept, kept_in, table_bytes, Asked, run, SlotTable, slot_in, unused, TicketParts, Turn, own_rom, InitiatorState, after, ReadsAfter, held_after, AreSlotsOf, slot_calls_after}
+use Rattle.sbp_world.proofs.Words.Laws.{buffer_in, Orb, Row, prepared_in, slots, used, vacant}
+use Rattle.sbp_world.proofs.Words.World.{AreRows, LastFits, HoldsOrbs, OrbsLaw, StandsIn, orb_for, name, name_in, row, row_by}
+use Rattle.std.proofs.Common.{slice_index_or}
+use Rattle.std.proofs.lemmas.List.{get_or-map}
 use Rattle.bus_memory.specs.declared.window.Window.TheVariants as windows
-use Rattle.bus_memory.specs.Windows.{start}
-use Rattle.orb_layout.specs.Pointers.{node_at}
-use Rattle.orb_layout.specs.CommandOrbs.{command_orb}
-use Rattle.orb_layout.specs.declared.command.CommandOrb.{CommandOrb}
-use Rattle.orb_list.specs.declared.slot.SlotState.{SlotState}
 use Rattle.orb_list.specs.declared.slot.SlotState.TheVariants as states
-use Rattle.orb_list.specs.Kept.{HoldsOrb, IfHoldsOrb, Kept, kept_in}
-use Rattle.orb_list.specs.Layout.{table_bytes}
-use Rattle.orb_list.specs.Requests.{Asked}
 use Rattle.orb_list.specs.Runs as slot_runs
-use Rattle.orb_list.specs.Runs.{run}
-use Rattle.orb_list.specs.Table.{SlotTable, slot_in, unused}
-use Rattle.orb_list.specs.Tickets.{TicketParts}
 use Rattle.orb_list.proofs.Steps.{held_law}
-use Rattle.sbp_initiator.specs.Effects.{Turn}
-use Rattle.sbp_initiator.specs.Initiators.{own_rom}
-use Rattle.sbp_initiator.specs.declared.state.InitiatorState.{InitiatorState}
-use Rattle.sbp_journal.specs.Run.{Moment}
-use Rattle.sbp_laws.specs.CarriedBytes.{buffer_in}
 use Rattle.sbp_laws.specs.Lists as terms
-use Rattle.sbp_laws.specs.Lists.{Orb, SlotState as Row, prepared_in, slots, used, vacant}
-use Rattle.sbp_initiator.specs.Histories.Laws.{after}
-use Rattle.sbp_initiator.specs.Histories.Served.{ReadsAfter, held_after}
-use Rattle.sbp_initiator.specs.Histories.Slots.{AreSlotsOf, slot_calls_after}
 use Rattle.sbp_initiator.proofs.Histories.Served.{reads_law}
 use Rattle.sbp_initiator.proofs.Histories.Slotted.{slot_law}
-use Rattle.sbp_world.specs.Hosts.Fits.{AreRows, LastFits}
-use Rattle.sbp_world.specs.Hosts.Orbs.{HoldsOrbs, OrbsLaw, StandsIn, orb_for}
-use Rattle.sbp_world.specs.Hosts.Rows.{name, name_in, row, row_by}
 use Rattle.sbp_world.proofs.Hosts.Chains.{Same, chained_run}
 use Rattle.sbp_world.proofs.Hosts.OrbAppends.{kept_last}
 use Rattle.sbp_world.proofs.Hosts.OrbFits.{IfFits, OrbFits, format_in, next_in}

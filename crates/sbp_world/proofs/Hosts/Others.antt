@@ -1,7 +1,7 @@
 -- What is told of others than initiators.
-use Rattle.std.proofs.Common.{List, [], ◌∷◌, ◌++◌}
-use Rattle.sbp_journal.specs.declared.side.Side.{Side}
-use Rattle.sbp_world.specs.Hosts.Handing.{AreOthers, IsOther}
+use Rattle.sbp_world.proofs.Words.Std.{List, [], ◌∷◌, ◌++◌}
+use Rattle.sbp_world.proofs.Words.Wire.{Side}
+use Rattle.sbp_world.proofs.Words.World.{AreOthers, IsOther}
 
 pub more : (told : List Side) (side : Side) → AreOthers told → IsOther side → AreOthers (told ++ side ∷ [])
 more [] side h f = (f, tt)

@@ -1,19 +1,13 @@
 -- A slot is over by the run terms exactly where it is by its table.
-use Rattle.std.proofs.Common.{arith, ◌≡◌, refl, sym, ◌∙◌, ap, subst, ℕ, suc, ◌+◌, ◌-◌, ◌<◌, ◌==◌, ◌&&◌, ◌||◌, not, nat_lt, Bool, true, false, cond, List, [], ◌∷◌, length, map, Option, Some, None}
-use Rattle.std.proofs.lemmas.Bool.Decides.{nat_tests}
-use Rattle.orb_list.specs.declared.list.Link.{Link}
+use Rattle.sbp_world.proofs.Words.Std.{arith, ◌≡◌, refl, sym, ◌∙◌, ap, subst, ℕ, suc, ◌+◌, ◌-◌, ◌<◌, ◌==◌, ◌&&◌, ◌||◌, not, nat_lt, Bool, true, false, cond, List, [], ◌∷◌, length, map, Option, Some, None, nat_tests}
+use Rattle.sbp_world.proofs.Words.Initiator.{Link, PresentList, SlotState, Slot, TicketParts, is_ticket, SlotTable, slot_in, is_done, next_is_linked, over_for, over_in, released}
+use Rattle.sbp_world.proofs.Words.Laws.{Row, vacant, used, is_over_by, is_pinned}
+use Rattle.sbp_world.proofs.Words.World.{name, name_in, row, row_by, ListTerms, over_at, LastFits, IfLast, StateFits, linked_by, ListFits, IfList, IfHeld, Fits, Frees}
 use Rattle.orb_list.specs.declared.list.Link.TheVariants as links
-use Rattle.orb_list.specs.declared.list.PresentList.{PresentList}
-use Rattle.orb_list.specs.declared.slot.SlotState.{SlotState}
 use Rattle.orb_list.specs.declared.slot.SlotState.TheVariants as states
-use Rattle.orb_list.specs.declared.slot.Slot.{Slot}
-use Rattle.orb_list.specs.Tickets.{TicketParts, is_ticket}
 use Rattle.orb_list.specs.Table as table
-use Rattle.orb_list.specs.Table.{SlotTable, slot_in, is_done, next_is_linked, over_for, over_in, released}
 use Rattle.orb_list.proofs.Tied.{ticket_itself}
-use Rattle.sbp_laws.specs.Lists.{SlotState as Row, vacant, used, is_over_by, is_pinned}
-use Rattle.sbp_world.specs.Hosts.Rows.{name, name_in, row, row_by}
-use Rattle.sbp_world.specs.Hosts.Fits.{ListTerms, over_at, LastFits, IfLast, IsTaken, StateFits, linked_by, ListFits, IfList, IfHeld, Fits, Frees}
+use Rattle.sbp_world.specs.Hosts.Fits.{IsTaken}
 
 -- ---- the rule of the slots is that of the terms
 

@@ -1,35 +1,15 @@
 -- A response that tells bytes in answer to a block read stands behind the note that the read was got.
-use Rattle.std.proofs.Common.{arith, ◌≡◌, refl, sym, ◌∙◌, ap, subst, ℕ, suc, ◌+◌, ◌≤◌, ◌==◌, Bool, true, false, cond, List, [], ◌∷◌, ◌++◌, map, Option, Some, None, Result, Ok, Err, append_assoc}
-use Rattle.std.proofs.lemmas.Bool.Decides.{nat_tests}
-use Rattle.std.proofs.lemmas.Bool.{false≢true}
-use Rattle.std.proofs.lemmas.Option.{same_Some}
-use Rattle.async_packet.specs.Fields.{rcode_of}
-use Rattle.async_packet.specs.Packet.{Packet, lock, read_block, read_block_response, read_quadlet, read_quadlet_response, lock_response, write_block, write_quadlet, write_response}
-use Rattle.async_packet.specs.Reading.{reading}
-use Rattle.async_packet.specs.Spells.{Spells}
-use Rattle.async_packet.specs.declared.fault.PacketFault.{PacketFault}
-use Rattle.bus_transactions.specs.Answers.{AreAnswered, IsOwed, IsSentFor}
-use Rattle.bus_transactions.specs.Packets.{SerialsCount}
-use Rattle.bus_transactions.specs.Judging.{AreJudged, facts_of, is_repeated, may_ignore_by}
-use Rattle.bus_transactions.specs.Wire.{is_stated}
+use Rattle.sbp_world.proofs.Words.Std.{arith, ◌≡◌, refl, sym, ◌∙◌, ap, subst, ℕ, suc, ◌+◌, ◌≤◌, ◌==◌, Bool, true, false, cond, List, [], ◌∷◌, ◌++◌, map, Option, Some, None, Result, Ok, Err, append_assoc, nat_tests, false≢true, same_Some}
+use Rattle.sbp_world.proofs.Words.Wire.{rcode_of, Packet, lock, read_block, read_block_response, read_quadlet, read_quadlet_response, lock_response, write_block, write_quadlet, write_response, reading, Spells, PacketFault, AreAnswered, IsOwed, IsSentFor, SerialsCount, AreJudged, is_repeated, may_ignore_by, is_stated, row_of, is_write, Access, access_of, Moment, asked, said, Kind, Sending, between, is_same_kind, part_in, part_of, reading_block, request, response, writing, Owed, Terms, terms, Cause, Note}
+use Rattle.sbp_world.proofs.Words.Initiator.{Done, Payload, Refused}
+use Rattle.sbp_world.proofs.Words.Laws.{access_in, answer_in, answer_of, packet_in, receiver_in, spelled_by}
+use Rattle.sbp_world.proofs.Words.World.{IsResponse, Remains, IsOwedThere, note_of}
+use Rattle.bus_transactions.specs.Judging.{facts_of}
 use Rattle.bus_transactions.proofs.Facts.{IsReply}
 use Rattle.bus_transactions.proofs.FitJudged.{spelled}
 use Rattle.bus_transactions.proofs.PacketParts.{asking_read, part_read}
-use Rattle.label_table.specs.Judging.{row_of}
-use Rattle.label_table.specs.Requests.{is_write}
-use Rattle.orb_layout.specs.Replies.{Done, Payload, Refused}
-use Rattle.sbp_journal.specs.Addresses.{Access, access_of}
-use Rattle.sbp_journal.specs.Run.{Moment, asked, said}
-use Rattle.sbp_journal.specs.Transactions.{Kind, Sending, between, is_same_kind, part_in, part_of, reading_block, request, response, writing}
-use Rattle.sbp_journal.specs.Wire.{Owed, Terms, terms}
-use Rattle.sbp_journal.specs.declared.cause.Cause.{Cause}
 use Rattle.sbp_journal.specs.declared.cause.Cause.TheVariants as causes
-use Rattle.sbp_journal.specs.declared.note.Note.{Note}
 use Rattle.sbp_journal.specs.declared.note.Note.TheVariants as notes
-use Rattle.sbp_laws.specs.Packets.{access_in, answer_in, answer_of, packet_in, receiver_in, spelled_by}
-use Rattle.sbp_world.specs.Hosts.Carrying.{IsResponse}
-use Rattle.sbp_world.specs.Hosts.Remaining.{Remains}
-use Rattle.sbp_world.specs.Hosts.Standing.{IsOwedThere, note_of}
 use Rattle.sbp_world.proofs.Hosts.Between.{OfWire}
 use Rattle.sbp_world.proofs.Hosts.Finished.{next_serial}
 use Rattle.sbp_world.proofs.Hosts.MemoryRcodes.{and_true}

@@ -1,45 +1,17 @@
 -- Single lines of a world, for a statement that its lines carry on.
-use Rattle.std.proofs.Common.{arith, ◌≡◌, refl, sym, ap, subst, ℕ, suc, ◌-◌, ◌<◌, ◌==◌, ◌||◌, not, nat_lt, Bool, true, false, cond, List, ◌∷◌, length, slice_set, Option, Some, None, Result, Ok, Err}
-use Rattle.std.proofs.lemmas.Bool.Decides.{nat_tests}
-use Rattle.async_packet.specs.Labels.{LabelParts}
-use Rattle.label_table.specs.declared.reply.Stale.{Stale}
-use Rattle.label_table.specs.Layer.{seeing_step}
-use Rattle.packet_store.specs.declared.sent.Sent.{Sent}
-use Rattle.packet_store.specs.Kept.{found_sent, is_flying}
-use Rattle.packet_store.specs.Stored.{deliver_step}
-use Rattle.rbc_disk.specs.Held.{Held}
-use Rattle.rbc_disk.specs.Runs.{Told}
-use Rattle.sbp_journal.specs.Run.{Moment, said}
-use Rattle.sbp_journal.specs.Wire.{terms as wire_terms}
-use Rattle.sbp_journal.specs.Outgoings.{OutboxState, empty_outbox}
-use Rattle.sbp_journal.specs.declared.cause.Judged.{Judged}
+use Rattle.sbp_world.proofs.Words.Std.{arith, ◌≡◌, refl, sym, ap, subst, ℕ, suc, ◌-◌, ◌<◌, ◌==◌, ◌||◌, not, nat_lt, Bool, true, false, cond, List, ◌∷◌, length, Option, Some, None, Result, Ok, Err, nat_tests}
+use Rattle.sbp_world.proofs.Words.Wire.{LabelParts, Stale, seeing_step, Sent, found_sent, is_flying, deliver_step, Moment, said, wire_terms, OutboxState, empty_outbox, Judged, Note, Request, id_of, judged_note, no_packet, find}
+use Rattle.sbp_world.proofs.Words.Target.{Held, Told, NodeState, scene, expired}
+use Rattle.sbp_world.proofs.Words.Initiator.{InitiatorState, Turn, expire_step, receive_step, see_step}
+use Rattle.sbp_world.proofs.Words.World.{Arrival, MayAt, MayReceive, MayTold, arrived, at_none, at_target, delivered, delivered_by, initiator_received, initiators_received, listed, received_at, received_by, received_step, target_received, handed_out, see_line, target_ticks, tick_line, world_expires, initiator_expires, refused, target_expired, target_left, timed_out, timeout_line, timeout_of, sent_all, told_all, Scene, WorldState, initiator_at, with_initiator, with_note, with_target, AreNotes, history, MaySee}
+use Rattle.std.proofs.Common.{slice_set}
 use Rattle.sbp_journal.specs.declared.cause.Judged.TheVariants as judgements
-use Rattle.sbp_journal.specs.declared.note.Note.{Note}
 use Rattle.sbp_journal.specs.declared.note.Note.TheVariants as notes
-use Rattle.sbp_initiator.specs.declared.state.InitiatorState.{InitiatorState}
-use Rattle.sbp_initiator.specs.Effects.{Turn}
-use Rattle.sbp_initiator.specs.Receiving.{expire_step, receive_step}
-use Rattle.sbp_initiator.specs.Seeing.{see_step}
-use Rattle.sbp_target.specs.Nodes.{NodeState, scene}
 use Rattle.sbp_target.specs.Nodes as target
-use Rattle.sbp_target.specs.Receiving.{expired}
-use Rattle.sbp_bus.specs.declared.requests.Request.{Request}
-use Rattle.sbp_bus.specs.Generations.{id_of}
-use Rattle.sbp_bus.specs.Packets.{judged_note, no_packet}
-use Rattle.sbp_bus.specs.Requests.{find}
-use Rattle.sbp_world.specs.declared.parts.delivering.Arrival.{Arrival}
-use Rattle.sbp_world.specs.Delivering.{MayAt, MayReceive, MayTold, arrived, at_initiator, at_none, at_target, delivered, delivered_by, initiator_received, initiators_received, listed, received_at, received_by, received_step, target_received}
-use Rattle.sbp_world.specs.Handing.{handed_out}
-use Rattle.sbp_world.specs.Nodes.{see_line, target_ticks, tick_line}
+use Rattle.sbp_world.specs.Delivering.{at_initiator}
 use Rattle.sbp_world.specs.Nodes as nodes
-use Rattle.sbp_world.specs.Packets.{expires as world_expires, initiator_expires, refused, target_expired, target_left, timed_out, timeout_line, timeout_of}
 use Rattle.sbp_world.specs.Packets as packets
-use Rattle.sbp_world.specs.Sending.{sent_all}
-use Rattle.sbp_world.specs.Telling.{told_all}
-use Rattle.sbp_world.specs.Worlds.{Scene, WorldState, initiator_at, with_initiator, with_note, with_target}
 use Rattle.sbp_world.proofs.InitiatorForms as initiators
-use Rattle.sbp_world.specs.Hosts.Handing.{AreNotes, history}
-use Rattle.sbp_world.specs.Hosts.Lines.{MaySee}
 use Rattle.sbp_world.proofs.Hosts.Carries.{Are, AreBut, CarriesSent, NoneActs, Tells, initiator_hands, is_apart, note_beside, note_carried, target_hands}
 use Rattle.sbp_world.proofs.Hosts.Hands.{second_gives, sight_gives, target_gives}
 use Rattle.sbp_world.proofs.Hosts.Liners.{own_notes, silent}

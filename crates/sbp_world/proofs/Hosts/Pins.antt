@@ -1,16 +1,11 @@
 -- A slot is pinned, and the pin ends.
-use Rattle.std.proofs.Common.{◌≡◌, refl, sym, ◌∙◌, ap, ◌+◌, ◌<◌, ◌&&◌, ◌||◌, not, nat_lt, Bool, true, false, cond, List, map, Option, Some, None}
-use Rattle.orb_list.specs.declared.list.PresentList.{PresentList}
-use Rattle.orb_list.specs.declared.slot.SlotState.{SlotState}
+use Rattle.sbp_world.proofs.Words.Std.{◌≡◌, refl, sym, ◌∙◌, ap, ◌+◌, ◌<◌, ◌&&◌, ◌||◌, not, nat_lt, Bool, true, false, cond, List, map, Option, Some, None}
+use Rattle.sbp_world.proofs.Words.Initiator.{PresentList, SlotState, Slot, TicketParts, is_ticket, SlotTable, slot_in, is_free, waiting}
+use Rattle.sbp_world.proofs.Words.Laws.{Orb, Row}
+use Rattle.sbp_world.proofs.Words.World.{name, name_in, ListTerms, over_at, IfList, IfHeld, Fits, Frees, over_now, Rows}
 use Rattle.orb_list.specs.declared.slot.SlotState.TheVariants as states
-use Rattle.orb_list.specs.declared.slot.Slot.{Slot}
-use Rattle.orb_list.specs.Tickets.{TicketParts, is_ticket}
 use Rattle.orb_list.specs.Table as table
-use Rattle.orb_list.specs.Table.{SlotTable, slot_in, is_free, waiting}
 use Rattle.orb_list.proofs.Tied.{free_waits, waits_last}
-use Rattle.sbp_laws.specs.Lists.{Orb, SlotState as Row}
-use Rattle.sbp_world.specs.Hosts.Rows.{name, name_in}
-use Rattle.sbp_world.specs.Hosts.Fits.{ListTerms, over_at, IfList, IfHeld, Fits, Frees, over_now, Rows}
 use Rattle.sbp_world.proofs.Hosts.Sweeps.{closes, closes_still}
 
 abbrev pub pin_terms : Bool → Option Orb → ListTerms → ListTerms

@@ -1,27 +1,10 @@
 -- What an action leaves of what an initiator's slots bring with a good status: the plan of the ORB that it prepares.
-use Rattle.std.proofs.Common.{◌≡◌, refl, ◌∙◌, ap, ℕ, ◌==◌, is_some, Bool, true, false, cond, List, slice_set, Option, Some, None, Result, Ok, Err}
-use Rattle.label_table.specs.declared.judgement.Asked.{Asked as Label}
-use Rattle.label_table.specs.Layer.{Layer}
-use Rattle.orb_layout.specs.declared.management.ManagementOrb.{ManagementOrb}
-use Rattle.orb_list.specs.Lists.{ListState, dummy_lists, high_lists, low_lists, manage_lists, pin_lists}
+use Rattle.sbp_world.proofs.Words.Std.{◌≡◌, refl, ◌∙◌, ap, ℕ, ◌==◌, is_some, Bool, true, false, cond, List, Option, Some, None, Result, Ok, Err}
+use Rattle.sbp_world.proofs.Words.Wire.{Label, Layer, OutboxState, Action, Cmd}
+use Rattle.sbp_world.proofs.Words.Initiator.{ManagementOrb, ListState, dummy_lists, high_lists, low_lists, manage_lists, pin_lists, find_in, may_prepare, TicketParts, AnswerPlan, ListFault, PresentList, act_step, asked_as, asked_for, demand_of, demanded_as, done_step, dummy_for, facts_with, judged_as, link_as, link_step, login_id, low_as, low_step, managed_by, orb_by, pinned_for, put_as, put_step, ring_for, ring_step, with_running, asked_by, plan_of, prepared_as, put_lists, Turn, then_step, refusal, is_unwritten, Demand, Purpose, InitiatorState}
+use Rattle.std.proofs.Common.{slice_set}
 use Rattle.orb_list.specs.Table as table
-use Rattle.orb_list.specs.Table.{find_in, may_prepare}
-use Rattle.orb_list.specs.Tickets.{TicketParts}
-use Rattle.orb_list.specs.declared.answer.AnswerPlan.{AnswerPlan}
-use Rattle.orb_list.specs.declared.fault.ListFault.{ListFault}
-use Rattle.orb_list.specs.declared.list.PresentList.{PresentList}
-use Rattle.sbp_initiator.specs.Acting.{act_step, asked_as, asked_for, demand_of, demanded_as, done_step, dummy_for, facts_with, judged_as, link_as, link_step, login_id, low_as, low_step, managed_by, orb_by, pinned_for, put_as, put_step, ring_for, ring_step, with_running}
-use Rattle.sbp_initiator.specs.Commands.{asked_by, plan_of, prepared_as, put_lists}
-use Rattle.sbp_initiator.specs.Effects.{Turn, then_step}
-use Rattle.sbp_initiator.specs.Refusals.{refusal}
-use Rattle.sbp_initiator.specs.States.{is_unwritten}
-use Rattle.sbp_initiator.specs.declared.purpose.Demand.{Demand}
-use Rattle.sbp_initiator.specs.declared.purpose.Purpose.{Purpose}
-use Rattle.sbp_initiator.specs.declared.state.InitiatorState.{InitiatorState}
-use Rattle.sbp_journal.specs.Outgoings.{OutboxState}
-use Rattle.sbp_journal.specs.declared.event.Action.{Action}
 use Rattle.sbp_journal.specs.declared.event.Action.TheVariants as actions
-use Rattle.sbp_journal.specs.declared.event.Cmd.{Cmd}
 
 -- ---- the steps of the slots
 

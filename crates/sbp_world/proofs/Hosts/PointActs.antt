@@ -1,33 +1,16 @@
 -- The ORB_POINTER write that an initiator's host names, as the initiator does an action.
-use Rattle.std.proofs.Common.{arith, ◌≡◌, refl, sym, ◌∙◌, ap, ℕ, suc, ◌+◌, ◌≤◌, ◌==◌, is_some, not, Bool, true, false, cond, List, [], ◌∷◌, Option, Some, None}
-use Rattle.std.proofs.lemmas.Bool.Decides.{nat_tests}
-use Rattle.bus_transactions.specs.Rows.{kind_as, shape_of}
-use Rattle.bus_transactions.specs.Wire.{transaction}
+use Rattle.sbp_world.proofs.Words.Std.{arith, ◌≡◌, refl, sym, ◌∙◌, ap, ℕ, suc, ◌+◌, ◌≤◌, ◌==◌, is_some, not, Bool, true, false, cond, List, [], ◌∷◌, Option, Some, None, nat_tests}
+use Rattle.sbp_world.proofs.Words.Wire.{kind_as, shape_of, transaction, purpose_for, state_for, Moment, said, Kind, Sending, Transaction, begun_by, between, is_same, part_of, Terms, kind_in, terms, waits, Action, Outgoing}
+use Rattle.sbp_world.proofs.Words.Initiator.{PresentList, list_number, Demand, Pointing, Purpose, InitiatorState, demand_of, ring_demand, Turn, rings, is_unwritten, wanted_body}
+use Rattle.sbp_world.proofs.Words.Laws.{event_of}
+use Rattle.sbp_world.proofs.Words.World.{behind}
 use Rattle.bus_transactions.proofs.Facts.{asked_begun, request_asked}
 use Rattle.bus_transactions.proofs.PacketParts.{same_is}
-use Rattle.label_table.specs.Peers.{purpose_for, state_for}
-use Rattle.orb_list.specs.declared.list.PresentList.{PresentList}
-use Rattle.orb_list.specs.Table.{list_number}
-use Rattle.sbp_initiator.specs.declared.purpose.Demand.{Demand}
-use Rattle.sbp_initiator.specs.declared.purpose.Pointing.{Pointing}
-use Rattle.sbp_initiator.specs.declared.purpose.Purpose.{Purpose}
 use Rattle.sbp_initiator.specs.declared.purpose.Purpose.TheVariants as purposes
-use Rattle.sbp_initiator.specs.declared.state.InitiatorState.{InitiatorState}
-use Rattle.sbp_initiator.specs.Acting.{demand_of, ring_demand}
-use Rattle.sbp_initiator.specs.Effects.{Turn}
-use Rattle.sbp_initiator.specs.Refusals.{rings}
-use Rattle.sbp_initiator.specs.States.{is_unwritten, wanted_body}
-use Rattle.sbp_journal.specs.Run.{Moment, said}
-use Rattle.sbp_journal.specs.Transactions.{Kind, Sending, Transaction, begun_by, between, is_same, part_of}
-use Rattle.sbp_journal.specs.Wire.{Terms, kind_in, terms, waits}
-use Rattle.sbp_journal.specs.declared.event.Action.{Action}
 use Rattle.sbp_journal.specs.declared.event.Action.TheVariants as actions
 use Rattle.sbp_journal.specs.declared.event.Event.TheVariants as events
 use Rattle.sbp_journal.specs.declared.note.Note.TheVariants as notes
-use Rattle.sbp_journal.specs.declared.outbox.Outgoing.{Outgoing}
 use Rattle.sbp_initiator.proofs.Histories.Effects.{HasMarks}
-use Rattle.sbp_laws.specs.Turns.{event_of}
-use Rattle.sbp_world.specs.Hosts.Calls.{behind}
 use Rattle.sbp_world.proofs.Hosts.ActLeft.{ActLeft, HasAsked}
 use Rattle.sbp_world.proofs.Hosts.Asked.{IsRequest, number_in}
 use Rattle.sbp_world.proofs.Hosts.Held.{sent_apart, sent_begun, sent_count, sent_new, sent_old}

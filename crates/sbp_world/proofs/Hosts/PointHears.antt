@@ -1,22 +1,12 @@
 -- The ORB_POINTER write that an initiator's host names, as others tell and do something, and as the initiator hears a packet, lets a transaction
 -- time out, and sees a generation.
-use Rattle.std.proofs.Common.{arith, ◌≡◌, refl, sym, ◌∙◌, ap, ℕ, suc, ◌+◌, ◌≤◌, ◌==◌, is_some, Bool, true, false, List, ◌∷◌, Option, Some}
-use Rattle.std.proofs.lemmas.Bool.Decides.{nat_tests}
-use Rattle.bus_transactions.specs.Rows.{awaits, kind_as, shape, shape_of}
-use Rattle.bus_transactions.specs.Wire.{transaction}
-use Rattle.label_table.specs.declared.reply.ReplyKind.{ReplyKind}
-use Rattle.label_table.specs.Layer.{Layer}
-use Rattle.label_table.specs.Peers.{purpose_for, state_for}
-use Rattle.sbp_initiator.specs.declared.purpose.Purpose.{Purpose}
+use Rattle.sbp_world.proofs.Words.Std.{arith, ◌≡◌, refl, sym, ◌∙◌, ap, ℕ, suc, ◌+◌, ◌≤◌, ◌==◌, is_some, Bool, true, false, List, ◌∷◌, Option, Some, nat_tests}
+use Rattle.sbp_world.proofs.Words.Wire.{awaits, kind_as, shape, shape_of, transaction, ReplyKind, Layer, purpose_for, state_for, Moment, said, Kind, Sending, Transaction, Terms, terms, waits, Note}
+use Rattle.sbp_world.proofs.Words.Initiator.{Purpose, Turn}
+use Rattle.sbp_world.proofs.Words.Laws.{event_of}
+use Rattle.sbp_world.proofs.Words.World.{behind}
 use Rattle.sbp_initiator.specs.declared.purpose.Purpose.TheVariants as purposes
-use Rattle.sbp_initiator.specs.Effects.{Turn}
-use Rattle.sbp_journal.specs.Run.{Moment, said}
-use Rattle.sbp_journal.specs.Transactions.{Kind, Sending, Transaction}
-use Rattle.sbp_journal.specs.Wire.{Terms, terms, waits}
-use Rattle.sbp_journal.specs.declared.note.Note.{Note}
 use Rattle.sbp_journal.specs.declared.note.Note.TheVariants as notes
-use Rattle.sbp_laws.specs.Turns.{event_of}
-use Rattle.sbp_world.specs.Hosts.Calls.{behind}
 use Rattle.sbp_world.proofs.Hosts.Carries.{IsNoAct}
 use Rattle.sbp_world.proofs.Hosts.Held.{sent_count, sent_old}
 use Rattle.sbp_world.proofs.Hosts.Layered.{LayerLeft, Left, read, same}

@@ -1,19 +1,12 @@
 -- What an initiator tells as it sees a generation, and what it leaves of the layer.
-use Rattle.std.proofs.Common.{◌≡◌, refl, ℕ, nat_lt, Bool, true, false, cond, List, [], ◌∷◌, Option, Some, None}
-use Rattle.label_table.specs.Layer.{Layer, seeing_step, seen_in_generation}
-use Rattle.orb_list.specs.Lists.{ListState, drop_lists}
-use Rattle.sbp_journal.specs.Outgoings.{OutboxState, empty_outbox}
+use Rattle.sbp_world.proofs.Words.Std.{◌≡◌, refl, ℕ, nat_lt, Bool, true, false, cond, List, [], ◌∷◌, Option, Some, None}
+use Rattle.sbp_world.proofs.Words.Wire.{Layer, seeing_step, seen_in_generation, OutboxState, empty_outbox, Operation}
+use Rattle.sbp_world.proofs.Words.Initiator.{ListState, drop_lists, Purpose, Running, InitiatorState, Turn, dropped_as, all_end, interrupted, reset_told, resets_told, see_step, seen_as, states_end}
 use Rattle.sbp_journal.specs.declared.note.Note.TheVariants as notes
-use Rattle.sbp_journal.specs.declared.operation.Operation.{Operation}
 use Rattle.sbp_journal.specs.declared.operation.Operation.TheVariants as operations
 use Rattle.sbp_journal.specs.declared.operation.OpWord.TheVariants as words
 use Rattle.sbp_journal.specs.declared.side.Side.TheVariants as sides
 use Rattle.sbp_initiator.specs.declared.purpose.Pointing.TheVariants as pointings
-use Rattle.sbp_initiator.specs.declared.purpose.Purpose.{Purpose}
-use Rattle.sbp_initiator.specs.declared.purpose.Running.{Running}
-use Rattle.sbp_initiator.specs.declared.state.InitiatorState.{InitiatorState}
-use Rattle.sbp_initiator.specs.Effects.{Turn, dropped_as}
-use Rattle.sbp_initiator.specs.Seeing.{all_end, interrupted, reset_told, resets_told, see_step, seen_as, states_end}
 use Rattle.sbp_world.proofs.Hosts.Layered.{AreTame, tame_more}
 
 ends_one : (number : ℕ) (operation : Operation) (o : OutboxState) → AreTame o.sides → AreTame (reset_told number operation o).sides

@@ -1,34 +1,19 @@
 -- What each note leaves of the ORB_POINTER write that an initiator's host names, and of its labels.
-use Rattle.std.proofs.Common.{arith, ◌≡◌, refl, sym, ◌∙◌, ap, ℕ, zero, suc, ◌+◌, ◌≤◌, ◌&&◌, nat_eq, not, Bool, true, false, cond, List, [], ◌∷◌, Option, Some, None}
-use Rattle.std.proofs.lemmas.Bool.Decides.{nat_tests}
-use Rattle.std.proofs.lemmas.Bool.{not-true}
-use Rattle.orb_layout.specs.Replies.{Answer, Done, Expired, NoLabel, Payload, Refused}
-use Rattle.bus_transactions.specs.Packets.{SerialsCount}
-use Rattle.bus_transactions.specs.Sent.{AreSent}
-use Rattle.bus_transactions.specs.Wire.{transaction}
+use Rattle.sbp_world.proofs.Words.Std.{arith, ◌≡◌, refl, sym, ◌∙◌, ap, ℕ, zero, suc, ◌+◌, ◌≤◌, ◌&&◌, nat_eq, not, Bool, true, false, cond, List, [], ◌∷◌, Option, Some, None, nat_tests, not-true}
+use Rattle.sbp_world.proofs.Words.Wire.{SerialsCount, AreSent, transaction, Moment, said, Kind, Part, Sending, Transaction, part_of, request, response, Held, Terms, opened, terms, Action, Event, Note, Operation, OpWord, Side}
+use Rattle.sbp_world.proofs.Words.Initiator.{Answer, Done, Expired, NoLabel, Payload, Refused, rings}
+use Rattle.sbp_world.proofs.Words.Laws.{Host, Underway, acted, goes_on, host_at, known_host, list_begins, op_ended, op_left, operation_of, pointer_answered, ring, sent_in, present_list, answer_in, answered_at, packet_at, receiver_in, sender_in, event_of}
+use Rattle.sbp_world.proofs.Words.World.{behind}
 use Rattle.bus_transactions.proofs.PacketParts.{other_requester}
-use Rattle.sbp_journal.specs.Run.{Moment, said}
-use Rattle.sbp_journal.specs.Transactions.{Kind, Part, Sending, Transaction, no_packet, part_of, request, response}
-use Rattle.sbp_journal.specs.Wire.{Held, Terms, opened, terms}
-use Rattle.sbp_journal.specs.declared.event.Action.{Action}
+use Rattle.sbp_journal.specs.Transactions.{no_packet}
 use Rattle.sbp_journal.specs.declared.event.Action.TheVariants as actions
-use Rattle.sbp_journal.specs.declared.event.Event.{Event}
 use Rattle.sbp_journal.specs.declared.event.Event.TheVariants as events
-use Rattle.sbp_journal.specs.declared.note.Note.{Note}
 use Rattle.sbp_journal.specs.declared.note.Note.TheVariants as notes
-use Rattle.sbp_journal.specs.declared.operation.Operation.{Operation}
 use Rattle.sbp_journal.specs.declared.operation.Operation.TheVariants as operations
-use Rattle.sbp_journal.specs.declared.operation.OpWord.{OpWord}
 use Rattle.sbp_journal.specs.declared.operation.OpWord.TheVariants as words
-use Rattle.sbp_journal.specs.declared.side.Side.{Side}
 use Rattle.sbp_journal.specs.declared.side.Side.TheVariants as sides
-use Rattle.sbp_initiator.specs.Refusals.{rings}
-use Rattle.sbp_laws.specs.Hosts.{Host, Underway, acted, goes_on, got_by, host_at, is_serial, known_host, list_begins, op_ended, op_left, operation_of, pointer_answered, reset_seen, ring, sent_as, sent_in}
-use Rattle.sbp_laws.specs.Lists.{present_list}
-use Rattle.sbp_laws.specs.Packets.{answer_in, answered_at, packet_at, receiver_in, sender_in}
-use Rattle.sbp_laws.specs.Turns.{event_of}
+use Rattle.sbp_laws.specs.Hosts.{got_by, is_serial, reset_seen, sent_as}
 use Rattle.sbp_world.proofs.Wire.Agrees.{got_agrees, ignored_agrees, timed_agrees}
-use Rattle.sbp_world.specs.Hosts.Calls.{behind}
 use Rattle.sbp_world.proofs.Hosts.Asked.{IsRequest}
 use Rattle.sbp_world.proofs.Hosts.Carries.{IsNoAct, is_apart}
 use Rattle.sbp_world.proofs.Hosts.Cores.{wire_is, and_false}

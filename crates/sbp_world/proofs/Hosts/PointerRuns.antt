@@ -1,50 +1,24 @@
 -- In every run the write of ORB_POINTER that is under way is the one that the run names.
-use Rattle.std.proofs.Common.{arith, ◌≡◌, refl, sym, ◌∙◌, ap, subst, ℕ, suc, ◌<◌, ◌==◌, ◌&&◌, ◌||◌, not, Bool, true, false, cond, length, map, List, ◌∷◌, ◌++◌, Option, Some, None}
-use Rattle.bus_transactions.specs.Reached.{IsAwaited}
-use Rattle.bus_transactions.specs.Rows.{kind_as, shape_of}
+use Rattle.sbp_world.proofs.Words.Std.{arith, ◌≡◌, refl, sym, ◌∙◌, ap, subst, ℕ, suc, ◌<◌, ◌==◌, ◌&&◌, ◌||◌, not, Bool, true, false, cond, length, map, List, ◌∷◌, ◌++◌, Option, Some, None}
+use Rattle.sbp_world.proofs.Words.Wire.{IsAwaited, kind_as, shape_of, state_for, OutboxState, Refusals, refusal_of, Action, transaction, Moment, asked, said, Kind, Sending, Transaction, begun_by, Held, Terms, free, rests, terms, waits}
+use Rattle.sbp_world.proofs.Words.Target.{Told}
+use Rattle.sbp_world.proofs.Words.Initiator.{Seat, is_stuck_seat, points_in, act_step, facts_with, ends_list, operation_of, refusal, rows_of, sends, finds_label, InitiatorState, PointedNow, PointingAfter}
+use Rattle.sbp_world.proofs.Words.Laws.{is_pointing, refusal_at, refusals, Host, host_at, is_stuck, begun_in, is_of_now, is_under_way, is_waiting_for, waits_for}
+use Rattle.sbp_world.proofs.Words.World.{Core, session_in, history_of, Run, after, beginning, MayAll, after_all, WorldState, begun, initiator_at, Stands, history, IsOfWire, DecidesByWaiting, IsSentBy, PointerRunLaw, PointsByWrites, WaitsForPointer, IsRun, more_deliveries}
 use Rattle.bus_transactions.proofs.Facts.{asked_is, begun_asked}
 use Rattle.bus_transactions.proofs.Reaches.{goes_on}
-use Rattle.label_table.specs.Peers.{state_for}
-use Rattle.sbp_session.specs.declared.seat.Seat.{Seat}
 use Rattle.sbp_session.specs.declared.seat.Seat.TheVariants as seats
-use Rattle.sbp_session.specs.Seats.{is_stuck_seat, points as points_in}
 use Rattle.sbp_initiator.proofs.FirstRow.{refusal_law}
-use Rattle.sbp_initiator.specs.Acting.{act_step, facts_with}
-use Rattle.sbp_initiator.specs.Refusals.{ends_list, operation_of, refusal, rows_of, sends}
-use Rattle.sbp_initiator.specs.Refusing.{finds_label}
-use Rattle.sbp_journal.specs.Outgoings.{OutboxState}
-use Rattle.sbp_journal.specs.Rows.{Refusals, refusal_of}
-use Rattle.sbp_journal.specs.declared.event.Action.{Action}
 use Rattle.sbp_journal.specs.declared.event.Action.TheVariants as actions
-use Rattle.sbp_laws.specs.Actions.{is_pointing, refusal_at, refusals}
-use Rattle.sbp_laws.specs.Hosts.{Host, host_at, is_stuck}
-use Rattle.sbp_laws.specs.Packets.{begun_in, is_of_now, is_under_way, is_waiting_for, waits_for}
-use Rattle.sbp_world.specs.Hosts.Core.{Core, session_in}
 use Rattle.sbp_world.proofs.Hosts.Deciding.{Plain, rows_same}
 use Rattle.sbp_world.proofs.Hosts.Hosted.{host_law, session_waits}
 use Rattle.sbp_world.proofs.Hosts.Refusing.{run_action_law}
-use Rattle.bus_transactions.specs.Wire.{transaction}
 use Rattle.sbp_initiator.specs.declared.purpose.Purpose.TheVariants as purposes
-use Rattle.sbp_initiator.specs.declared.state.InitiatorState.{InitiatorState}
-use Rattle.rbc_disk.specs.Runs.{Told}
-use Rattle.sbp_journal.specs.Run.{Moment, asked, said}
-use Rattle.sbp_journal.specs.Transactions.{Kind, Sending, Transaction, begun_by}
-use Rattle.sbp_journal.specs.Wire.{Held, Terms, free, rests, terms, waits}
-use Rattle.sbp_initiator.specs.Histories.Pointing.{Pointed as PointedNow, PointingAfter}
-use Rattle.sbp_world.specs.Histories.{history_of}
-use Rattle.sbp_world.specs.Runs.{Run, after, beginning}
-use Rattle.sbp_world.specs.Settling.{MayAll, after_all}
-use Rattle.sbp_world.specs.Worlds.{WorldState, begun, initiator_at}
-use Rattle.sbp_world.specs.Wire.Wires.{Stands}
-use Rattle.sbp_world.specs.Hosts.Handing.{history}
-use Rattle.sbp_world.specs.Wire.History.{IsOfWire}
 use Rattle.sbp_world.proofs.FitInitiator.Law.{fitting_law as own_fitting_law}
 use Rattle.sbp_world.proofs.FitTarget.Law.{fitting_law}
 use Rattle.sbp_world.proofs.Wire.Runs.{SoundAfter, sound_after}
 use Rattle.sbp_world.proofs.Wire.Starts.{laws_of}
-use Rattle.sbp_world.specs.Hosts.PointerRuns.{DecidesByWaiting, IsSentBy, PointerRunLaw, PointsByWrites, WaitsForPointer}
 use Rattle.sbp_world.specs.Hosts.Refusing.{initiator_of}
-use Rattle.sbp_world.specs.Hosts.Runs.{IsRun, more_deliveries}
 use Rattle.sbp_world.proofs.Hosts.Aimed.{Aims, IsAimed, aimed_carried, first_aimed}
 use Rattle.sbp_world.proofs.Hosts.Carried.{between_runs, of_runs, stands_between}
 use Rattle.sbp_world.proofs.Hosts.Lives.{At}

@@ -1,33 +1,16 @@
 -- The ORB_POINTER write that an initiator's host names, and the one under way in its layer.
-use Rattle.std.proofs.Common.{◌≡◌, refl, sym, ◌∙◌, ap, subst, ℕ, suc, ◌+◌, ◌≤◌, is_some, not, Bool, true, false, List, Option, Some, None, Result, Ok, Err}
-use Rattle.bus_transactions.specs.Rows.{awaits, shape}
-use Rattle.bus_transactions.specs.Sent.{IsOwn}
+use Rattle.sbp_world.proofs.Words.Std.{◌≡◌, refl, sym, ◌∙◌, ap, subst, ℕ, suc, ◌+◌, ◌≤◌, is_some, not, Bool, true, false, List, Option, Some, None, Result, Ok, Err}
+use Rattle.sbp_world.proofs.Words.Wire.{awaits, shape, IsOwn, transaction, Asked, LabelState, ReplyKind, Body, Layer, asked_at, asking_in, asking_step, peer_at, peer_place, unlabelled, PeerPlace, ask_place, purpose_for, state_for, NoLabel, LabelParts, Moment, Kind, Sending, Transaction, begun_by, is_same, part_of, Held, Terms, kind_in, sends, terms, waits}
+use Rattle.sbp_world.proofs.Words.Initiator.{Pointing, Purpose, InitiatorState, is_unwritten, PointingAfter}
+use Rattle.sbp_world.proofs.Words.World.{Core}
 use Rattle.bus_transactions.specs.Sent as sent
-use Rattle.bus_transactions.specs.Wire.{transaction}
 use Rattle.bus_transactions.proofs.Facts.{asked_is, begun_asked}
 use Rattle.bus_transactions.proofs.PacketParts.{same_is}
-use Rattle.label_table.specs.declared.judgement.Asked.{Asked}
-use Rattle.label_table.specs.declared.place.LabelState.{LabelState}
 use Rattle.label_table.specs.declared.place.LabelState.TheVariants as states
-use Rattle.label_table.specs.declared.reply.ReplyKind.{ReplyKind}
-use Rattle.label_table.specs.Bodies.{Body}
-use Rattle.label_table.specs.Layer.{Layer, asked_at, asking_in, asking_step, peer_at, peer_place, unlabelled}
-use Rattle.label_table.specs.Peers.{PeerPlace, ask_place, purpose_for, state_for}
-use Rattle.label_table.specs.declared.reply.NoLabel.{NoLabel}
-use Rattle.async_packet.specs.Labels.{LabelParts}
-use Rattle.sbp_initiator.specs.declared.purpose.Pointing.{Pointing}
 use Rattle.sbp_initiator.specs.declared.purpose.Pointing.TheVariants as pointings
-use Rattle.sbp_initiator.specs.declared.purpose.Purpose.{Purpose}
 use Rattle.sbp_initiator.specs.declared.purpose.Purpose.TheVariants as purposes
-use Rattle.sbp_initiator.specs.declared.state.InitiatorState.{InitiatorState}
-use Rattle.sbp_initiator.specs.States.{is_unwritten}
-use Rattle.sbp_journal.specs.Run.{Moment}
-use Rattle.sbp_journal.specs.Transactions.{Kind, Sending, Transaction, begun_by, is_same, part_of}
-use Rattle.sbp_journal.specs.Wire.{Held, Terms, kind_in, sends, terms, waits}
-use Rattle.sbp_initiator.specs.Histories.Pointing.{PointingAfter}
 use Rattle.sbp_initiator.proofs.Histories.Over.{sound}
 use Rattle.sbp_initiator.proofs.Histories.Pointing.{pointing_law}
-use Rattle.sbp_world.specs.Hosts.Core.{Core}
 use Rattle.sbp_world.proofs.Hosts.Held.{sent_apart, sent_begun}
 use Rattle.sbp_world.proofs.Hosts.Hosted.{Cored}
 use Rattle.sbp_world.proofs.Hosts.Lives.{At, Called}

@@ -1,12 +1,8 @@
 -- An ORB that is the one prepared last in its slot was so at each moment behind its append.
-use Rattle.std.proofs.Common.{arith, ◌≡◌, refl, sym, ◌∙◌, ap, ℕ, suc, ◌<◌, ◌≤◌, nat_eq, Bool, true, false, cond, List, [], ◌∷◌, ◌++◌, Some, None}
-use Rattle.std.proofs.lemmas.Bool.Decides.{nat_tests}
-use Rattle.std.proofs.lemmas.Option.{same_Some}
-use Rattle.sbp_journal.specs.Run.{Moment, asked, said}
+use Rattle.sbp_world.proofs.Words.Std.{arith, ◌≡◌, refl, sym, ◌∙◌, ap, ℕ, suc, ◌<◌, ◌≤◌, nat_eq, Bool, true, false, cond, List, [], ◌∷◌, ◌++◌, Some, None, nat_tests, same_Some}
+use Rattle.sbp_world.proofs.Words.Wire.{Moment, asked, said, NoteBuffer}
+use Rattle.sbp_world.proofs.Words.Laws.{list_in, lowest_vacant, number_in, orb, prepared_in, slot_at, slots, appends}
 use Rattle.sbp_journal.specs.declared.note.Note.TheVariants as notes
-use Rattle.sbp_journal.specs.declared.note.NoteBuffer.{NoteBuffer}
-use Rattle.sbp_laws.specs.Lists.{list_in, lowest_vacant, number_in, orb, prepared_in, slot_at, slots}
-use Rattle.sbp_laws.specs.Terms.{appends}
 use Rattle.sbp_world.proofs.Hosts.LastingTerms.{AllLast, IsLast, IsNumbered, from_there, one_of}
 
 turned : (i j : ℕ) → nat_eq i j ≡ true → nat_eq j i ≡ true

@@ -1,20 +1,14 @@
 -- An ORB is prepared: the first one of a list, or the next one of the present list.
-use Rattle.std.proofs.Common.{arith, ◌≡◌, refl, sym, ◌∙◌, ap, subst, inl, inr, ◌⊎◌, ℕ, suc, ◌+◌, ◌-◌, ◌<◌, ◌≤◌, ◌&&◌, ◌||◌, not, nat_eq, nat_lt, Bool, true, false, cond, List, length, slice_set, Option, Some, None}
-use Rattle.std.proofs.Math.ListN.{length-set}
-use Rattle.std.proofs.lemmas.Bool.Decides.{nat_tests}
-use Rattle.orb_list.specs.declared.list.Link.{Link}
+use Rattle.sbp_world.proofs.Words.Std.{arith, ◌≡◌, refl, sym, ◌∙◌, ap, subst, inl, inr, ◌⊎◌, ℕ, suc, ◌+◌, ◌-◌, ◌<◌, ◌≤◌, ◌&&◌, ◌||◌, not, nat_eq, nat_lt, Bool, true, false, cond, List, length, Option, Some, None, length-set, nat_tests}
+use Rattle.sbp_world.proofs.Words.Initiator.{Link, PresentList, SlotState, Slot, TicketParts, SlotTable, slot_in, is_free, is_done, waiting}
+use Rattle.sbp_world.proofs.Words.Laws.{orb, TakenStatus}
+use Rattle.sbp_world.proofs.Words.World.{name, name_in, ListTerms, IfLast, StateFits, linked_by, LoweredFits, Waits, IfList, IfHeld, ToCome, Fits, over_now}
+use Rattle.std.proofs.Common.{slice_set}
 use Rattle.orb_list.specs.declared.list.Link.TheVariants as links
-use Rattle.orb_list.specs.declared.list.PresentList.{PresentList}
-use Rattle.orb_list.specs.declared.slot.SlotState.{SlotState}
 use Rattle.orb_list.specs.declared.slot.SlotState.TheVariants as states
-use Rattle.orb_list.specs.declared.slot.Slot.{Slot}
-use Rattle.orb_list.specs.Tickets.{TicketParts}
 use Rattle.orb_list.specs.Table as table
-use Rattle.orb_list.specs.Table.{SlotTable, slot_in, is_free, is_done, waiting}
 use Rattle.orb_list.proofs.Tied.{free_waits, set_here, set_there}
-use Rattle.sbp_laws.specs.Lists.{orb, TakenStatus}
-use Rattle.sbp_world.specs.Hosts.Rows.{name, name_in}
-use Rattle.sbp_world.specs.Hosts.Fits.{ListTerms, IfLast, IsOf, IsTaken, StateFits, linked_by, LoweredFits, Waits, IfList, IfHeld, ToCome, Fits, over_now}
+use Rattle.sbp_world.specs.Hosts.Fits.{IsOf, IsTaken}
 use Rattle.sbp_world.proofs.Common.{itself}
 
 -- the terms behind an append, of the first ORB of a list or of another one, in the slot `low`; only the first one begins a list

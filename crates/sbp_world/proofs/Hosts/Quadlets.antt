@@ -1,11 +1,8 @@
 -- In every run no quadlet is written into the memory of an initiator, and what it serves is the target's.
-use Rattle.std.proofs.Common.{◌∙◌, ap, ℕ, List}
-use Rattle.sbp_journal.specs.Run.{Moment}
-use Rattle.sbp_laws.specs.Packets.{packet_in}
-use Rattle.sbp_world.specs.Histories.{history_of}
-use Rattle.sbp_world.specs.Hosts.Bytes.{writes_quadlet}
-use Rattle.sbp_world.specs.Hosts.Quadlets.{QuadletLaw, WritesNoQuadlet}
-use Rattle.sbp_world.specs.Hosts.Sources.{SourceLaw}
+use Rattle.sbp_world.proofs.Words.Std.{◌∙◌, ap, ℕ, List}
+use Rattle.sbp_world.proofs.Words.Wire.{Moment}
+use Rattle.sbp_world.proofs.Words.Laws.{packet_in}
+use Rattle.sbp_world.proofs.Words.World.{history_of, writes_quadlet, QuadletLaw, WritesNoQuadlet, SourceLaw}
 use Rattle.sbp_world.proofs.Hosts.Between.{between, carried_there}
 use Rattle.sbp_world.proofs.Hosts.Mild.{spells_mild}
 use Rattle.sbp_world.proofs.Hosts.Fair.{Carried, Fair, fair_carried, fair_of_runs, first_fair, sent_mild}

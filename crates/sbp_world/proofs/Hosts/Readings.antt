@@ -1,25 +1,15 @@
 -- The run terms of an initiator's lists are read off its slots.
-use Rattle.std.proofs.Common.{arith, ◌≡◌, refl, sym, ◌∙◌, ap, subst, ℕ, zero, suc, ◌+◌, ◌-◌, ◌<◌, ◌≤◌, ◌==◌, ◌&&◌, not, is_none, is_some, nat_lt, Bool, true, false, cond, List, [], ◌∷◌, length, map, Option, Some, None}
-use Rattle.std.specs.List.{position_or_len}
-use Rattle.std.proofs.lemmas.Bool.Decides.{nat_tests}
-use Rattle.orb_list.specs.declared.list.Link.{Link}
+use Rattle.sbp_world.proofs.Words.Std.{arith, ◌≡◌, refl, sym, ◌∙◌, ap, subst, ℕ, zero, suc, ◌+◌, ◌-◌, ◌<◌, ◌≤◌, ◌==◌, ◌&&◌, not, is_some, nat_lt, Bool, true, false, cond, List, [], ◌∷◌, length, map, Option, Some, None, position_or_len, nat_tests}
+use Rattle.sbp_world.proofs.Words.Wire.{Moment}
+use Rattle.sbp_world.proofs.Words.Initiator.{Link, PresentList, SlotState, Slot, TicketParts, SlotTable, find_in, is_free, list_number, lowest, orb_number, slot_in, waiting, waits_high, waits_low}
+use Rattle.sbp_world.proofs.Words.Laws.{appends, TakenStatus, lowest_vacant, present_list, is_none_taken, waits_in, is_mid_link, is_lowered, list_for, waits_of}
+use Rattle.sbp_world.proofs.Words.World.{row, present_in, ListTerms, terms_at, StateFits, ListFits, IfList, LoweredFits, linked_by, AreRows, ReadAs, ReadLaw, last_linked}
+use Rattle.std.proofs.Common.{is_none}
 use Rattle.orb_list.specs.declared.list.Link.TheVariants as links
-use Rattle.orb_list.specs.declared.list.PresentList.{PresentList}
-use Rattle.orb_list.specs.declared.slot.SlotState.{SlotState}
 use Rattle.orb_list.specs.declared.slot.SlotState.TheVariants as states
-use Rattle.orb_list.specs.declared.slot.Slot.{Slot}
-use Rattle.orb_list.specs.Tickets.{TicketParts}
 use Rattle.orb_list.specs.Table as table
-use Rattle.orb_list.specs.Table.{SlotTable, find_in, is_free, list_number, lowest, orb_number, slot_in, waiting, waits_high, waits_low}
 use Rattle.orb_list.proofs.Tied.{waits_last}
-use Rattle.sbp_journal.specs.Run.{Moment}
-use Rattle.sbp_laws.specs.Terms.{appends}
 use Rattle.sbp_laws.specs.Lists as terms
-use Rattle.sbp_laws.specs.Lists.{TakenStatus, lowest_vacant, present_list, is_none_taken, waits_in}
-use Rattle.sbp_laws.specs.Actions.{is_mid_link, is_lowered, list_for, waits_of}
-use Rattle.sbp_world.specs.Hosts.Rows.{row, present_in}
-use Rattle.sbp_world.specs.Hosts.Fits.{ListTerms, terms_at, StateFits, ListFits, IfList, LoweredFits, linked_by, AreRows}
-use Rattle.sbp_world.specs.Hosts.Reading.{ReadAs, ReadLaw, last_linked}
 use Rattle.sbp_world.proofs.Hosts.Appends.{vacant_row}
 use Rattle.sbp_world.proofs.Hosts.Acts.{found_number}
 use Rattle.sbp_world.proofs.Hosts.Beside.{find_waits}

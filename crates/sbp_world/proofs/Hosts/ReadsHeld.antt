@@ -1,30 +1,12 @@
 -- What a read brings that the memory of an initiator serves: by the run terms, and of its slots.
-use Rattle.std.proofs.Common.{arith, ◌≡◌, sym, ◌∙◌, ap, subst, ℕ, ◌-◌, ◌*◌, ◌<◌, false, List, length, take, drop, Option, Some}
-use Rattle.bus_memory.specs.Access.{read_step}
-use Rattle.bus_memory.specs.Memory.{Memory, slot_at as memory_at}
+use Rattle.sbp_world.proofs.Words.Std.{arith, ◌≡◌, sym, ◌∙◌, ap, subst, ℕ, ◌-◌, ◌*◌, ◌<◌, false, List, length, take, drop, Option, Some}
+use Rattle.sbp_world.proofs.Words.Wire.{Access, Moment, Cmd}
+use Rattle.sbp_world.proofs.Words.Initiator.{read_step, Memory, memory_at, start, window_at, command_orb, pointer_at, CommandOrb, table_bytes, InitiatorState, addresses, buffer_addresses, elements_of, IsCommand}
+use Rattle.sbp_world.proofs.Words.Laws.{IsRead, laid_out, IsAsAppended, Orb, command_at, prepared_in, host_reply, orb_in_slot, window_gives}
+use Rattle.sbp_world.proofs.Words.World.{Follows, HoldsOrb, HoldsPointer, HoldsTable, AllSend, HoldsOrbs, next_of, orb_for, request_of, IsReadBy, IsReadOf, IsSaid, CarriesOrb}
 use Rattle.bus_memory.specs.declared.window.Window.TheVariants as windows
-use Rattle.bus_memory.specs.Windows.{start, window_at}
 use Rattle.bus_memory.proofs.Found.{window_here}
-use Rattle.orb_layout.specs.CommandOrbs.{command_orb}
-use Rattle.orb_layout.specs.Pointers.{pointer_at}
-use Rattle.orb_layout.specs.declared.command.CommandOrb.{CommandOrb}
-use Rattle.orb_list.specs.Layout.{table_bytes}
-use Rattle.sbp_initiator.specs.declared.state.InitiatorState.{InitiatorState}
-use Rattle.sbp_journal.specs.Addresses.{Access}
-use Rattle.sbp_journal.specs.Run.{Moment}
-use Rattle.sbp_journal.specs.declared.event.Cmd.{Cmd}
-use Rattle.page_table.specs.Buffer.{addresses, buffer_addresses}
-use Rattle.page_table.specs.Elements.{elements_of}
-use Rattle.sbp_initiator.specs.Commands.{IsCommand}
-use Rattle.sbp_laws.specs.CarriedBytes.{IsRead, laid_out}
-use Rattle.sbp_laws.specs.CarriedLaw.{IsAsAppended}
-use Rattle.sbp_laws.specs.Lists.{Orb, command_at, prepared_in}
-use Rattle.sbp_laws.specs.Served.{host_reply, orb_in_slot, window_gives}
-use Rattle.sbp_world.specs.Hosts.Carrying.{Follows, HoldsOrb, HoldsPointer, HoldsTable, IsServed}
-use Rattle.sbp_world.specs.Hosts.DataReads.{AllSend}
-use Rattle.sbp_world.specs.Hosts.Orbs.{HoldsOrbs, next_of, orb_for, request_of}
-use Rattle.sbp_world.specs.Hosts.Reads.{IsReadBy, IsReadOf, IsSaid}
-use Rattle.sbp_world.specs.Hosts.Responses.{CarriesOrb}
+use Rattle.sbp_world.specs.Hosts.Carrying.{IsServed}
 use Rattle.sbp_world.proofs.Hosts.OrbFits.{format_in, next_in}
 use Rattle.sbp_world.proofs.Hosts.OrbTables.{table_laid}
 use Rattle.sbp_world.proofs.Hosts.OrbTerms.{OrbTerms, orb_terms}

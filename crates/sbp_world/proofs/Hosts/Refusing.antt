@@ -1,19 +1,10 @@
 -- The actions of every run.
-use Rattle.std.proofs.Common.{◌≡◌, sym, subst, ℕ, List, ◌++◌, Bool, None}
-use Rattle.sbp_journal.specs.Outgoings.{OutboxState}
-use Rattle.sbp_journal.specs.Run.{Moment}
-use Rattle.sbp_journal.specs.declared.event.Action.{Action}
-use Rattle.sbp_initiator.specs.declared.state.InitiatorState.{InitiatorState}
-use Rattle.sbp_initiator.specs.Acting.{act_step, facts_with}
-use Rattle.sbp_initiator.specs.Refusals.{rows_of}
-use Rattle.sbp_laws.specs.Actions.{action_notes, refusals}
-use Rattle.sbp_laws.specs.Hosts.{Host}
-use Rattle.sbp_world.specs.Histories.{history_of}
-use Rattle.sbp_initiator.specs.Histories.Ends.{own}
-use Rattle.sbp_world.specs.Hosts.Acting.{HasRows}
-use Rattle.sbp_world.specs.Hosts.Fits.{AreRows}
-use Rattle.sbp_world.specs.Hosts.Refusing.{RunActionLaw, initiator_of}
-use Rattle.sbp_world.specs.Hosts.Worlds.{IsHost}
+use Rattle.sbp_world.proofs.Words.Std.{◌≡◌, sym, subst, ℕ, List, ◌++◌, Bool, None}
+use Rattle.sbp_world.proofs.Words.Wire.{OutboxState, Moment, Action}
+use Rattle.sbp_world.proofs.Words.Initiator.{InitiatorState, act_step, facts_with, rows_of, own}
+use Rattle.sbp_world.proofs.Words.Laws.{action_notes, refusals, Host}
+use Rattle.sbp_world.proofs.Words.World.{history_of, HasRows, AreRows, RunActionLaw, IsHost}
+use Rattle.sbp_world.specs.Hosts.Refusing.{initiator_of}
 use Rattle.sbp_world.proofs.Hosts.Runs.{run_law}
 use Rattle.sbp_world.proofs.Hosts.Telling.{action_law}
 

@@ -1,18 +1,12 @@
 -- What stands behind the history in which an initiator gets a block read, and what the response brings.
+use Rattle.sbp_world.proofs.Words.Std.{AllByRecursion}
+use Rattle.sbp_world.proofs.Words.Wire.{reading, is_plain, Access, Moment, said, terms, Note}
+use Rattle.sbp_world.proofs.Words.Initiator.{Payload}
+use Rattle.sbp_world.proofs.Words.Laws.{answer_in, spelled_by, host_reply}
+use Rattle.sbp_world.proofs.Words.World.{IsReadWith, payload_of}
 use Rattle.std.specs.Prelude.{◌≡◌, ℕ, suc, ◌+◌, true, List, ◌∷◌, ◌++◌, map}
-use Rattle.std.specs.List.{AllByRecursion}
-use Rattle.async_packet.specs.Reading.{reading}
-use Rattle.bus_transactions.specs.May.{is_plain}
-use Rattle.orb_layout.specs.Replies.{Payload}
-use Rattle.sbp_journal.specs.Addresses.{Access}
-use Rattle.sbp_journal.specs.Run.{Moment, said}
-use Rattle.sbp_journal.specs.Wire.{terms}
-use Rattle.sbp_journal.specs.declared.note.Note.{Note}
 use Rattle.sbp_journal.specs.declared.note.Note.TheVariants as notes
-use Rattle.sbp_laws.specs.Packets.{answer_in, spelled_by}
-use Rattle.sbp_laws.specs.Served.{host_reply}
 use Rattle.sbp_world.specs.Hosts.Carrying.{IsServed}
-use Rattle.sbp_world.specs.Hosts.Responses.{IsReadWith, payload_of}
 use Rattle.sbp_world.proofs.Hosts.OrbTerms.{orb_terms}
 
 -- Behind the note that it was got stand plain effects, which say nothing of ORBs, and the response. Where that tells bytes, the read was served so; and

@@ -1,34 +1,16 @@
 -- A block read that an initiator gets in a delivery is answered from its memory.
-use Rattle.std.proofs.Common.{arith, ◌≡◌, refl, sym, ◌∙◌, ap, subst, ℕ, suc, ◌<◌, ◌≤◌, ◌^◌, List, [], ◌∷◌, ◌++◌, map, length, replicate, Option, Some, Result, Ok, Err, Bool}
-use Rattle.std.proofs.lemmas.List.{length-replicate, length-take}
-use Rattle.async_packet.specs.Reading.{reading}
-use Rattle.bus_memory.specs.Access.{judged, read_at, read_step}
-use Rattle.bus_memory.specs.Memory.{Memory}
+use Rattle.sbp_world.proofs.Words.Std.{arith, ◌≡◌, refl, sym, ◌∙◌, ap, subst, ℕ, suc, ◌<◌, ◌≤◌, ◌^◌, List, [], ◌∷◌, ◌++◌, map, length, replicate, Option, Some, Result, Ok, Err, Bool, length-replicate, length-take}
+use Rattle.sbp_world.proofs.Words.Wire.{reading, Access, access_of, empty_outbox, Moment, said, of_request, terms}
+use Rattle.sbp_world.proofs.Words.Target.{Told}
+use Rattle.sbp_world.proofs.Words.Initiator.{judged, read_at, read_step, Memory, Rcode, Spot, Payload, InitiatorState, receive_step}
+use Rattle.sbp_world.proofs.Words.Laws.{answer_in, id_of, spelled_by, host_reply}
+use Rattle.sbp_world.proofs.Words.World.{delivered, Scene, initiator_at, AllSend, history, HoldsOrbs, IsReadBy, IsReadOf, payload_of}
 use Rattle.bus_memory.specs.declared.access.Access.TheVariants.{Read}
-use Rattle.bus_memory.specs.declared.access.Rcode.{Rcode}
-use Rattle.bus_memory.specs.declared.access.Spot.{Spot}
-use Rattle.orb_layout.specs.Replies.{Payload}
-use Rattle.rbc_disk.specs.Runs.{Told}
-use Rattle.sbp_initiator.specs.declared.state.InitiatorState.{InitiatorState}
-use Rattle.sbp_initiator.specs.Receiving.{receive_step}
-use Rattle.sbp_journal.specs.Addresses.{Access, access_of}
-use Rattle.sbp_journal.specs.Outgoings.{empty_outbox}
-use Rattle.sbp_journal.specs.Run.{Moment, said}
-use Rattle.label_table.specs.Layer.{of_request}
 use Rattle.sbp_journal.specs.declared.note.Note.TheVariants as notes
-use Rattle.sbp_journal.specs.Wire.{terms}
 use Rattle.sbp_laws.specs.CarriedBytes.{bytes_in}
-use Rattle.sbp_laws.specs.Packets.{answer_in, id_of, spelled_by}
-use Rattle.sbp_laws.specs.Served.{Reply, host_reply}
-use Rattle.sbp_world.specs.Delivering.{delivered}
-use Rattle.sbp_world.specs.Worlds.{Scene, initiator_at}
+use Rattle.sbp_laws.specs.Served.{Reply}
 use Rattle.sbp_world.proofs.Wire.Holding.{Sound}
 use Rattle.sbp_world.specs.Hosts.Carrying.{IsServed}
-use Rattle.sbp_world.specs.Hosts.DataReads.{AllSend}
-use Rattle.sbp_world.specs.Hosts.Handing.{history}
-use Rattle.sbp_world.specs.Hosts.Orbs.{HoldsOrbs}
-use Rattle.sbp_world.specs.Hosts.Reads.{IsReadBy, IsReadOf}
-use Rattle.sbp_world.specs.Hosts.Responses.{payload_of}
 use Rattle.sbp_world.proofs.Hosts.Answering.{answer, asks_block}
 use Rattle.sbp_world.proofs.Hosts.AnsweringBlocks.{block_answered}
 use Rattle.sbp_world.proofs.Hosts.AnsweringSends as sends

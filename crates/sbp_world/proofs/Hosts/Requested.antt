@@ -1,26 +1,10 @@
 -- The packets of an action: none, or one request to the target; and what tells of an action leaves the bus of its world.
-use Rattle.std.proofs.Common.{◌≡◌, refl, ◌∙◌, subst, sym, ℕ, List, [], ◌∷◌, ◌++◌, true, Option, Some, None}
-use Rattle.label_table.specs.declared.judgement.Asked.{Asked}
-use Rattle.label_table.specs.Layer.{Layer}
-use Rattle.orb_list.specs.declared.list.PresentList.{PresentList}
-use Rattle.orb_list.specs.Lists.{ListState, high_lists, low_lists}
-use Rattle.orb_list.specs.Table.{find_in}
-use Rattle.orb_list.specs.Tickets.{TicketParts}
-use Rattle.sbp_journal.specs.Outgoings.{OutboxState, empty_outbox}
-use Rattle.sbp_journal.specs.declared.event.Action.{Action}
+use Rattle.sbp_world.proofs.Words.Std.{◌≡◌, refl, ◌∙◌, subst, sym, ℕ, List, [], ◌∷◌, ◌++◌, true, Option, Some, None}
+use Rattle.sbp_world.proofs.Words.Wire.{Asked, Layer, OutboxState, empty_outbox, Action, Cmd, Outgoing, Side}
+use Rattle.sbp_world.proofs.Words.Initiator.{PresentList, ListState, high_lists, low_lists, find_in, TicketParts, Demand, Purpose, InitiatorState, act_step, append_step, asked_as, asked_for, demand_of, demanded_as, done_step, dummy_for, facts_with, judged_as, link_as, link_step, login_id, low_as, low_step, put_as, put_step, ring_for, put_lists, refusal}
+use Rattle.sbp_world.proofs.Words.World.{told, told_all, WorldState}
 use Rattle.sbp_journal.specs.declared.event.Action.TheVariants as actions
-use Rattle.sbp_journal.specs.declared.event.Cmd.{Cmd}
-use Rattle.sbp_journal.specs.declared.outbox.Outgoing.{Outgoing}
-use Rattle.sbp_journal.specs.declared.side.Side.{Side}
 use Rattle.sbp_journal.specs.declared.side.Side.TheVariants as sides
-use Rattle.sbp_initiator.specs.declared.purpose.Demand.{Demand}
-use Rattle.sbp_initiator.specs.declared.purpose.Purpose.{Purpose}
-use Rattle.sbp_initiator.specs.declared.state.InitiatorState.{InitiatorState}
-use Rattle.sbp_initiator.specs.Acting.{act_step, append_step, asked_as, asked_for, demand_of, demanded_as, done_step, dummy_for, facts_with, judged_as, link_as, link_step, login_id, low_as, low_step, put_as, put_step, ring_for}
-use Rattle.sbp_initiator.specs.Commands.{put_lists}
-use Rattle.sbp_initiator.specs.Refusals.{refusal}
-use Rattle.sbp_world.specs.Telling.{told, told_all}
-use Rattle.sbp_world.specs.Worlds.{WorldState}
 use Rattle.sbp_world.proofs.Hosts.Asked.{IfRequest, IsRequest, number_in}
 
 -- ---- a step of a list sends nothing

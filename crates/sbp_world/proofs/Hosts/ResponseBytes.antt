@@ -1,26 +1,12 @@
 -- The payload of the response to a block read that is complete.
-use Rattle.std.proofs.Common.{arith, ◌≡◌, refl, sym, ap, ◌∙◌, ℕ, ◌^◌, ◌<◌, ◌≤◌, ◌==◌, Bool, true, false, cond, List, [], ◌∷◌, length, take, Option, Some, None, Ok}
-use Rattle.std.proofs.lemmas.Bool.Decides.{nat_tests}
-use Rattle.std.proofs.lemmas.Bool.{true≢false}
-use Rattle.async_packet.specs.Canon.{FitsHeader, canon}
-use Rattle.async_packet.specs.Fields.{largest}
-use Rattle.async_packet.specs.Packet.{Packet, lock, lock_response, read_block, read_block_response, read_quadlet, read_quadlet_response, write_block, write_quadlet, write_response}
-use Rattle.async_packet.specs.Reading.{reading}
-use Rattle.async_packet.specs.declared.packet.Header.{Header}
+use Rattle.sbp_world.proofs.Words.Std.{arith, ◌≡◌, refl, sym, ap, ◌∙◌, ℕ, ◌^◌, ◌<◌, ◌≤◌, ◌==◌, Bool, true, false, cond, List, [], ◌∷◌, length, take, Option, Some, None, Ok, nat_tests, true≢false}
+use Rattle.sbp_world.proofs.Words.Wire.{FitsHeader, canon, largest, Packet, lock, lock_response, read_block, read_block_response, read_quadlet, read_quadlet_response, write_block, write_quadlet, write_response, reading, Header, AreBytes, header_to, response_to, Access, access_of, Moment, Kind, locking, part_in, request, response}
+use Rattle.sbp_world.proofs.Words.Initiator.{pointer_at, Payload, Refused}
+use Rattle.sbp_world.proofs.Words.Laws.{IsRead, answer_in, answer_of, spelled_by, host_reply}
 use Rattle.async_packet.proofs.RoundTrip.{canon_spells}
 use Rattle.async_packet.proofs.Spelled.{reading_spelled}
-use Rattle.bus_transactions.specs.Fitting.{AreBytes}
 use Rattle.bus_transactions.proofs.FitJudged.{is_request, source_fits}
-use Rattle.label_table.specs.Bodies.{header_to, response_to}
 use Rattle.label_table.proofs.Requests.{label_spelled}
-use Rattle.orb_layout.specs.Pointers.{pointer_at}
-use Rattle.orb_layout.specs.Replies.{Payload, Refused}
-use Rattle.sbp_journal.specs.Addresses.{Access, access_of}
-use Rattle.sbp_journal.specs.Run.{Moment}
-use Rattle.sbp_journal.specs.Transactions.{Kind, locking, part_in, request, response}
-use Rattle.sbp_laws.specs.CarriedBytes.{IsRead}
-use Rattle.sbp_laws.specs.Packets.{answer_in, answer_of, spelled_by}
-use Rattle.sbp_laws.specs.Served.{host_reply}
 use Rattle.sbp_world.proofs.Hosts.Answering.{none_is}
 use Rattle.sbp_world.proofs.Hosts.ResponseTells.{some}
 

@@ -1,12 +1,8 @@
 -- What the run terms say of a read of a window: its rcode, and that the window is open where the read is complete.
-use Rattle.std.proofs.Common.{arith, ◌≡◌, refl, sym, ap, ◌∙◌, ℕ, suc, ◌<◌, ◌^◌, ◌==◌, not, Bool, true, false, cond, List, [], ◌∷◌, Some}
-use Rattle.bus_memory.specs.declared.window.Window.{Window}
-use Rattle.bus_memory.specs.Windows.{is_fifo, window_at}
-use Rattle.sbp_journal.specs.Addresses.{Access}
-use Rattle.sbp_journal.specs.Rows.{first_or, window_rcode}
-use Rattle.sbp_journal.specs.Run.{Moment}
-use Rattle.sbp_laws.specs.JudgementLaw.{rom_size}
-use Rattle.sbp_laws.specs.Served.{has_direction, host_reply, is_fifo_write, is_open, lies_inside, window_facts}
+use Rattle.sbp_world.proofs.Words.Std.{arith, ◌≡◌, refl, sym, ap, ◌∙◌, ℕ, suc, ◌<◌, ◌^◌, ◌==◌, not, Bool, true, false, cond, List, [], ◌∷◌, Some}
+use Rattle.sbp_world.proofs.Words.Wire.{Access, first_or, window_rcode, Moment}
+use Rattle.sbp_world.proofs.Words.Initiator.{Window, is_fifo, window_at}
+use Rattle.sbp_world.proofs.Words.Laws.{rom_size, has_direction, host_reply, is_fifo_write, is_open, lies_inside, window_facts}
 use Rattle.sbp_world.proofs.Hosts.MemoryRcodes.{and_true}
 
 -- ---- the rcode

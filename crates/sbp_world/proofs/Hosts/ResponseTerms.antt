@@ -1,18 +1,13 @@
 -- What the terms of the wire say of a response behind the request that was got.
-use Rattle.std.proofs.Common.{◌≡◌, refl, ◌∙◌, ap, ℕ, true, false, cond, List, [], ◌∷◌, ◌++◌, map, Some, None}
-use Rattle.std.specs.List.{AllByRecursion}
-use Rattle.bus_transactions.specs.May.{is_plain}
+use Rattle.sbp_world.proofs.Words.Std.{◌≡◌, refl, ◌∙◌, ap, ℕ, true, false, cond, List, [], ◌∷◌, ◌++◌, map, Some, None, AllByRecursion}
+use Rattle.sbp_world.proofs.Words.Wire.{is_plain, Moment, said, Kind, Part, Sending, part_of, request, response, Owed, Terms, arrives, gets, gets_as, is_news, is_served, judges, terms, Note}
+use Rattle.sbp_world.proofs.Words.Laws.{before_sent, payload_at, answer_in, packet_in, is_answered}
+use Rattle.sbp_world.proofs.Words.World.{payload_of}
 use Rattle.bus_transactions.proofs.Facts.{request_asked}
 use Rattle.bus_transactions.proofs.MoveOthers.{plain_terms}
-use Rattle.sbp_journal.specs.Run.{Moment, said}
-use Rattle.sbp_journal.specs.Transactions.{Kind, Part, Sending, no_packet, part_of, request, response}
-use Rattle.sbp_journal.specs.Wire.{Owed, Terms, arrives, gets, gets_as, is_news, is_served, judges, terms}
-use Rattle.sbp_journal.specs.declared.note.Note.{Note}
+use Rattle.sbp_journal.specs.Transactions.{no_packet}
 use Rattle.sbp_journal.specs.declared.note.Note.TheVariants as notes
-use Rattle.sbp_laws.specs.CarriedBytes.{before_sent, bytes_in, payload_at}
-use Rattle.sbp_laws.specs.Packets.{answer_in, packet_in}
-use Rattle.sbp_laws.specs.SentAnswers.{is_answered}
-use Rattle.sbp_world.specs.Hosts.Responses.{payload_of}
+use Rattle.sbp_laws.specs.CarriedBytes.{bytes_in}
 use Rattle.sbp_world.proofs.Hosts.SentMoments.{answers_now, sent_there}
 use Rattle.sbp_world.proofs.Common.{itself}
 

@@ -1,45 +1,22 @@
 -- In every run the terms of the lists of each initiator are the rows of its slots.
-use Rattle.std.proofs.Common.{arith, ◌≡◌, refl, sym, ◌∙◌, ap, subst, ℕ, suc, ◌+◌, ◌^◌, ◌<◌, ◌≤◌, nat_lt, Bool, true, false, cond, List, [], ◌∷◌, ◌++◌, length, map, Option, Some, None}
-use Rattle.bus_transactions.specs.May.{is_reset}
+use Rattle.sbp_world.proofs.Words.Std.{arith, ◌≡◌, refl, sym, ◌∙◌, ap, subst, ℕ, suc, ◌+◌, ◌^◌, ◌<◌, ◌≤◌, nat_lt, Bool, true, false, cond, List, [], ◌∷◌, ◌++◌, length, map, Option, Some, None}
+use Rattle.sbp_world.proofs.Words.Wire.{is_reset, Moment, asked, said, terms, Action, Event, node_of, reset_step, topology_at, no_node, no_packet, end_note}
+use Rattle.sbp_world.proofs.Words.Target.{Told, with_key}
+use Rattle.sbp_world.proofs.Words.Initiator.{new_state}
+use Rattle.sbp_world.proofs.Words.World.{moments_behind, MayHappen, acted, happens, keyed, no_unit, new_world, reset_line, MayIf, delivered_if, inject_line, injected, injected_to, is_in_flight, lose_line, lost, may_repeat, refused, AreEntries, Entry, Run, after, beginning, posted, MayAll, MayNext, after_all, delivered_at, delivered_next, is_settled, lowest, Scene, WorldState, begun, initiator_at, with_note, with_target, without_notes, BytesTold, AreLines, IsLine, history, is_abort, IsRun, RunLaw, more_deliveries, IsNoAbort, AreHosts, IsHost, NoneAborts}
 use Rattle.sbp_world.proofs.FitInitiator.Law.{fitting_law as own_fitting_law}
-use Rattle.rbc_disk.specs.Runs.{Told}
-use Rattle.sbp_journal.specs.Run.{Moment, asked, said}
-use Rattle.sbp_journal.specs.Wire.{terms}
-use Rattle.sbp_journal.specs.declared.event.Action.{Action}
 use Rattle.sbp_journal.specs.declared.event.Action.TheVariants as actions
-use Rattle.sbp_journal.specs.declared.event.Event.{Event}
 use Rattle.sbp_journal.specs.declared.event.Event.TheVariants as events
 use Rattle.sbp_journal.specs.declared.note.Note.TheVariants as notes
-use Rattle.sbp_initiator.specs.Initiators.{new_state}
-use Rattle.sbp_target.specs.Receiving.{with_key}
 use Rattle.sbp_world.proofs.Making.{initiators_size}
-use Rattle.sbp_bus.specs.Generations.{node_of, reset_step, topology_at}
-use Rattle.sbp_world.specs.Histories.{moments_behind}
-use Rattle.sbp_world.specs.Lines.{MayHappen, acted, happens, keyed, no_unit}
-use Rattle.sbp_world.specs.Making.{new_world}
-use Rattle.sbp_world.specs.Nodes.{reset_line}
-use Rattle.sbp_world.specs.Packets.{MayIf, delivered_if, inject_line, injected, injected_to, is_in_flight, lose_line, lost, may_repeat, refused}
-use Rattle.sbp_bus.specs.Packets.{no_node, no_packet}
-use Rattle.sbp_world.specs.Runs.{AreEntries, Entry, Run, after, beginning}
-use Rattle.sbp_world.specs.Sending.{posted}
-use Rattle.sbp_world.specs.Settling.{MayAll, MayNext, after_all, delivered_at, delivered_next, is_settled, lowest}
-use Rattle.sbp_bus.specs.Packets.{end_note}
 use Rattle.sbp_world.specs.Settling as settling
-use Rattle.sbp_world.specs.Worlds.{Scene, WorldState, begun, initiator_at, with_note, with_target, without_notes}
-use Rattle.sbp_world.specs.FitTarget.{BytesTold}
 use Rattle.sbp_world.proofs.FitTarget.Law.{fitting_law}
-use Rattle.sbp_world.specs.Wire.Lines.{AreLines, IsLine}
 use Rattle.sbp_world.proofs.Wire.Holding.{Sound}
 use Rattle.sbp_world.proofs.Wire.Runs.{sound_after}
 use Rattle.sbp_world.proofs.Wire.Sizes.{Sizes, happens_keeps, new_sizes}
 use Rattle.sbp_world.proofs.Wire.Sound.{next_heard, opens}
 use Rattle.sbp_world.proofs.Wire.Starts.{states_at}
 use Rattle.sbp_world.proofs.Wire.ToldBytes.{AreTold, happened_fits}
-use Rattle.sbp_world.specs.Hosts.Handing.{history}
-use Rattle.sbp_world.specs.Hosts.Lines.{is_abort}
-use Rattle.sbp_world.specs.Hosts.Runs.{IsRun, RunLaw, more_deliveries}
-use Rattle.sbp_world.specs.Hosts.Steps.{IsNoAbort}
-use Rattle.sbp_world.specs.Hosts.Worlds.{AreHosts, IsHost, NoneAborts}
 use Rattle.sbp_world.proofs.Hosts.Aborts.{line_aborts}
 use Rattle.sbp_world.proofs.Hosts.Beside.{begins, beside_rests, sent_rests}
 use Rattle.sbp_world.proofs.Hosts.Brings.{may_deliver}

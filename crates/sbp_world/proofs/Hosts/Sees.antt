@@ -1,35 +1,19 @@
 -- An initiator sees a generation.
-use Rattle.std.proofs.Common.{◌≡◌, refl, sym, ◌∙◌, ap, subst, ℕ, suc, ◌<◌, ◌≤◌, ◌==◌, ◌&&◌, not, nat_eq, nat_lt, Bool, true, false, cond, List, [], ◌∷◌, map, Option, Some, None}
-use Rattle.label_table.specs.Layer.{Layer, seeing_step}
-use Rattle.orb_list.specs.declared.list.PresentList.{PresentList}
-use Rattle.orb_list.specs.declared.slot.SlotState.{SlotState}
+use Rattle.sbp_world.proofs.Words.Std.{◌≡◌, refl, sym, ◌∙◌, ap, subst, ℕ, suc, ◌<◌, ◌≤◌, ◌==◌, ◌&&◌, not, nat_eq, nat_lt, Bool, true, false, cond, List, [], ◌∷◌, map, Option, Some, None}
+use Rattle.sbp_world.proofs.Words.Wire.{Layer, seeing_step, Moment, said, wire_terms, OutboxState, empty_outbox, Operation}
+use Rattle.sbp_world.proofs.Words.Initiator.{PresentList, SlotState, TicketParts, SlotTable, slot_in, Purpose, Running, InitiatorState, drop_lists, free_lists, with_slots, dropped_as, told, all_end, freed_step, interrupted, reset_step, reset_told, resets_told, see_step, seen_as, states_end}
+use Rattle.sbp_world.proofs.Words.Laws.{lists, appends, Row, vacant, new_slots, put_to_rest}
+use Rattle.sbp_world.proofs.Words.World.{present_in, ListTerms, terms_at, over_at, Frees, IfLast, StateFits, IfList, Fits, Rows, AreRows, behind, Beside, Listed, Pins}
 use Rattle.orb_list.specs.declared.slot.SlotState.TheVariants as states
-use Rattle.orb_list.specs.Tickets.{TicketParts}
 use Rattle.orb_list.specs.Table as table
-use Rattle.orb_list.specs.Table.{SlotTable, slot_in}
-use Rattle.sbp_journal.specs.Run.{Moment, said}
-use Rattle.sbp_journal.specs.Wire.{terms as wire_terms}
-use Rattle.sbp_journal.specs.Outgoings.{OutboxState, empty_outbox}
 use Rattle.sbp_journal.specs.declared.note.Note.TheVariants as notes
-use Rattle.sbp_journal.specs.declared.operation.Operation.{Operation}
 use Rattle.sbp_journal.specs.declared.operation.Operation.TheVariants as operations
 use Rattle.sbp_journal.specs.declared.operation.OpWord.TheVariants as words
 use Rattle.sbp_journal.specs.declared.side.Side.TheVariants as sides
-use Rattle.sbp_initiator.specs.declared.purpose.Purpose.{Purpose}
-use Rattle.sbp_initiator.specs.declared.purpose.Running.{Running}
-use Rattle.sbp_initiator.specs.declared.state.InitiatorState.{InitiatorState}
-use Rattle.orb_list.specs.Lists.{drop_lists, free_lists, with_slots}
-use Rattle.sbp_initiator.specs.Effects.{dropped_as, told}
-use Rattle.sbp_initiator.specs.Seeing.{all_end, freed_step, interrupted, reset_step, reset_told, resets_told, see_step, seen_as, states_end}
-use Rattle.sbp_laws.specs.Terms.{lists, appends}
 use Rattle.sbp_laws.specs.Lists as terms
-use Rattle.sbp_laws.specs.Lists.{SlotState as Row, vacant, new_slots, put_to_rest}
-use Rattle.sbp_world.specs.Hosts.Rows.{present_in}
-use Rattle.sbp_world.specs.Hosts.Fits.{ListTerms, terms_at, over_at, Frees, IfLast, StateFits, IfList, Fits, Rows, AreRows}
 use Rattle.sbp_world.proofs.Hosts.Pins.{pin_terms}
 use Rattle.sbp_world.proofs.Hosts.Sweeps.{frees, rests}
 use Rattle.sbp_world.proofs.Hosts.Drops.{drop_terms, seen_terms, dropped_fits, dropped_table, freed_fits}
-use Rattle.sbp_world.specs.Hosts.Calls.{behind, Beside, Listed, Pins}
 use Rattle.sbp_world.proofs.Hosts.Ends.{op_beside}
 use Rattle.sbp_world.proofs.Hosts.Listed.{behind_more, tells_beside}
 use Rattle.sbp_world.proofs.Common.{itself}

@@ -1,14 +1,8 @@
 -- Where a packet stands in a history, and what the terms of the wire say right behind it.
-use Rattle.std.proofs.Common.{arith, ◌≡◌, refl, sym, ◌∙◌, ap, subst, ℕ, ◌+◌, ◌≤◌, nat_eq, Bool, true, false, cond, List, [], ◌∷◌, ◌++◌, Some}
-use Rattle.std.proofs.lemmas.Bool.Decides.{nat_tests}
-use Rattle.std.proofs.lemmas.Option.{same_Some, none-some}
-use Rattle.sbp_base.specs.Update.{upd}
-use Rattle.bus_transactions.specs.Packets.{SerialsCount}
-use Rattle.sbp_journal.specs.Run.{Moment, asked, said}
-use Rattle.sbp_journal.specs.Transactions.{Sending, begun_by}
-use Rattle.sbp_journal.specs.Wire.{Owed, Terms, begins, pays, puts, terms}
+use Rattle.sbp_world.proofs.Words.Std.{arith, ◌≡◌, refl, sym, ◌∙◌, ap, subst, ℕ, ◌+◌, ◌≤◌, nat_eq, Bool, true, false, cond, List, [], ◌∷◌, ◌++◌, Some, nat_tests, same_Some, none-some, upd}
+use Rattle.sbp_world.proofs.Words.Wire.{SerialsCount, Moment, asked, said, Sending, begun_by, Owed, Terms, begins, pays, puts, terms}
+use Rattle.sbp_world.proofs.Words.Laws.{before_sent}
 use Rattle.sbp_journal.specs.declared.note.Note.TheVariants as notes
-use Rattle.sbp_laws.specs.CarriedBytes.{before_sent}
 use Rattle.sbp_world.proofs.Hosts.Remaining.{begins_same, gets_same, ignores_that_same, opened_same, pays_same, remains, serials_behind, times_out_same}
 use Rattle.sbp_world.proofs.Common.{itself}
 

@@ -1,17 +1,8 @@
 -- What the lines of a run know beside the statements that they carry on: that a layer is what the history says of its labels, which packet is
 -- heard, and that a packet is delivered or a transaction times out elsewhere.
+use Rattle.sbp_world.proofs.Words.Wire.{Packet, header_in, reading, shape, shape_of, transaction, Layer, state_for, Moment, Sending, terms, Note}
+use Rattle.sbp_world.proofs.Words.Initiator.{Purpose}
 use Rattle.std.specs.Prelude.{◌≡◌, ℕ, suc, ◌==◌, false, List, Some, Ok}
-use Rattle.async_packet.specs.Packet.{Packet, header_in}
-use Rattle.async_packet.specs.Reading.{reading}
-use Rattle.bus_transactions.specs.Rows.{shape, shape_of}
-use Rattle.bus_transactions.specs.Wire.{transaction}
-use Rattle.label_table.specs.Layer.{Layer}
-use Rattle.label_table.specs.Peers.{state_for}
-use Rattle.sbp_initiator.specs.declared.purpose.Purpose.{Purpose}
-use Rattle.sbp_journal.specs.Run.{Moment}
-use Rattle.sbp_journal.specs.Transactions.{Sending}
-use Rattle.sbp_journal.specs.Wire.{terms}
-use Rattle.sbp_journal.specs.declared.note.Note.{Note}
 use Rattle.sbp_journal.specs.declared.note.Note.TheVariants as notes
 
 -- its target has the ID that the history says, and the labels of an initiator to it are what the history says of them

@@ -1,53 +1,20 @@
 -- The labels of the initiators of a world, by its history: as a world stands, as a packet is judged, and as a transaction times out.
-use Rattle.std.proofs.Common.{arith, ◌≡◌, refl, sym, ◌∙◌, ap, subst, ℕ, suc, ◌<◌, ◌≤◌, ◌==◌, nat_eq, not, is_ok, Bool, true, false, cond, ◌||◌, List, ◌∷◌, length, map, position, slice_index_or, Option, Some, None, Result, Ok, Err}
-use Rattle.std.proofs.lemmas.Bool.Decides.{nat_tests}
-use Rattle.std.proofs.Math.ListN.{get_or-map}
-use Rattle.sbp_base.specs.Update.{upd}
-use Rattle.async_packet.specs.Labels.{LabelParts}
-use Rattle.bus_transactions.specs.Bare.{bare, bare_after, bare_finding, bare_place, bare_purpose, bare_result}
-use Rattle.bus_transactions.specs.May.{may_ignore}
-use Rattle.bus_transactions.specs.Moves.{expire, expiring, moved}
-use Rattle.bus_transactions.specs.Reached.{IsAwaited, IsOf}
-use Rattle.bus_transactions.specs.Rows.{awaits, shape, shape_of}
-use Rattle.bus_transactions.specs.Wire.{Due, Node, Wire, as_sending, first_note, id_for, transaction}
+use Rattle.sbp_world.proofs.Words.Std.{arith, ◌≡◌, refl, sym, ◌∙◌, ap, subst, ℕ, suc, ◌<◌, ◌≤◌, ◌==◌, nat_eq, not, Bool, true, false, cond, ◌||◌, List, ◌∷◌, length, map, Option, Some, None, Result, Ok, Err, nat_tests, get_or-map, upd}
+use Rattle.sbp_world.proofs.Words.Wire.{LabelParts, bare, bare_after, bare_finding, bare_place, bare_purpose, bare_result, may_ignore, expire, expiring, moved, IsAwaited, IsOf, awaits, shape, shape_of, Due, Node, Wire, as_sending, first_note, id_for, transaction, ReplyKind, Stale, Finding, Layer, expiring_step, judging_step, of_again, of_generation, of_grammar, of_label, of_request, of_response, is_owned_by, or_else, owned_place, shown_in, PeerPlace, no_peer, peer_of, state_for, place_at, Sent, found_sent, is_flying, deliver_step, Request, id_of, topology_at, judged_note, find, empty_outbox, Moment, said, Kind, Sending, Transaction, Held, Terms, free, rests, terms, waits, Cause, Judged}
+use Rattle.sbp_world.proofs.Words.Target.{NodeState, expired}
+use Rattle.sbp_world.proofs.Words.Initiator.{expire_step, receive_step, received, Purpose, InitiatorState}
+use Rattle.sbp_world.proofs.Words.World.{marked, target_left, WorldState, initiator_at, with_note, Stands, StandsAt, layer_in, layers_of, history}
+use Rattle.std.proofs.Common.{is_ok, position, slice_index_or}
 use Rattle.bus_transactions.proofs.Bares.{takes_steps}
 use Rattle.bus_transactions.proofs.Reaches.{goes_on}
 use Rattle.bus_transactions.proofs.Rooms.{position_map}
 use Rattle.bus_transactions.proofs.Stands.{Stands as Holds}
 use Rattle.bus_transactions.proofs.Steps.{ExpiredAs, expires}
 use Rattle.label_table.specs.declared.place.LabelState.TheVariants as states
-use Rattle.label_table.specs.declared.reply.ReplyKind.{ReplyKind}
-use Rattle.label_table.specs.declared.reply.Stale.{Stale}
-use Rattle.label_table.specs.Layer.{Finding, Layer, expiring_step, judging_step, of_again, of_generation, of_grammar, of_label, of_request, of_response}
-use Rattle.label_table.specs.Owned.{is_owned_by, or_else, owned_place, shown_in}
-use Rattle.label_table.specs.Peers.{PeerPlace, no_peer, peer_of, state_for}
-use Rattle.label_table.specs.Table.{place_at}
-use Rattle.packet_store.specs.declared.sent.Sent.{Sent}
-use Rattle.packet_store.specs.Kept.{found_sent, is_flying}
-use Rattle.packet_store.specs.Stored.{deliver_step}
-use Rattle.sbp_bus.specs.declared.requests.Request.{Request}
-use Rattle.sbp_bus.specs.Generations.{id_of, topology_at}
-use Rattle.sbp_bus.specs.Packets.{judged_note}
-use Rattle.sbp_bus.specs.Requests.{find}
-use Rattle.sbp_initiator.specs.Receiving.{expire_step, receive_step, received}
-use Rattle.sbp_initiator.specs.declared.purpose.Purpose.{Purpose}
-use Rattle.sbp_initiator.specs.declared.state.InitiatorState.{InitiatorState}
-use Rattle.sbp_journal.specs.Outgoings.{empty_outbox}
-use Rattle.sbp_journal.specs.Run.{Moment, said}
-use Rattle.sbp_journal.specs.Transactions.{Kind, Sending, Transaction}
-use Rattle.sbp_journal.specs.Wire.{Held, Terms, free, rests, terms, waits}
-use Rattle.sbp_journal.specs.declared.cause.Cause.{Cause}
 use Rattle.sbp_journal.specs.declared.cause.Cause.TheVariants as causes
-use Rattle.sbp_journal.specs.declared.cause.Judged.{Judged}
 use Rattle.sbp_journal.specs.declared.cause.Judged.TheVariants as judgements
 use Rattle.sbp_journal.specs.declared.note.Note.TheVariants as notes
-use Rattle.sbp_target.specs.Nodes.{NodeState}
 use Rattle.sbp_target.specs.Nodes as target
-use Rattle.sbp_target.specs.Receiving.{expired}
-use Rattle.sbp_world.specs.Delivering.{marked}
-use Rattle.sbp_world.specs.Packets.{target_left}
-use Rattle.sbp_world.specs.Worlds.{WorldState, initiator_at, with_note}
-use Rattle.sbp_world.specs.Wire.Wires.{Stands, StandsAt, layer_in, layers_of}
 use Rattle.sbp_world.proofs.Wire.Agrees.{ignored_agrees, timed_agrees}
 use Rattle.sbp_world.proofs.Wire.Asks.{own_layer}
 use Rattle.sbp_world.proofs.Wire.Bus.{holds}
@@ -57,7 +24,6 @@ use Rattle.sbp_world.proofs.Wire.Found.{id_known}
 use Rattle.sbp_world.proofs.Wire.Handles.{expired_generation}
 use Rattle.sbp_world.proofs.Wire.Holding.{NodesOf, to_target}
 use Rattle.sbp_world.proofs.Wire.UnderWay.{layer_ok, own_ok, target_ok}
-use Rattle.sbp_world.specs.Hosts.Handing.{history}
 use Rattle.sbp_world.proofs.Hosts.Held.{begun_from, ignored_quiet, timed_generation}
 use Rattle.sbp_world.proofs.Hosts.Knows.{was_sent}
 use Rattle.sbp_world.proofs.Hosts.Shown.{IsHeard, IsShown, NotFrom, NotTo}

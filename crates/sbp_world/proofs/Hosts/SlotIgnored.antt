@@ -1,34 +1,17 @@
 -- An initiator ignores no read for its slot, nor as one that comes again: only writes.
-use Rattle.std.proofs.Common.{arith, ◌≡◌, refl, sym, ◌∙◌, ap, ℕ, suc, ◌==◌, ◌&&◌, ◌||◌, not, Bool, true, false, List, [], ◌∷◌, ◌++◌, Option, Some, Result, Ok, Err}
-use Rattle.std.proofs.lemmas.Bool.Decides.{nat_tests}
-use Rattle.async_packet.specs.Packet.{Packet, header_in}
-use Rattle.async_packet.specs.Reading.{reading}
-use Rattle.async_packet.specs.declared.fault.PacketFault.{PacketFault}
-use Rattle.label_table.specs.Judging.{Row, by_again, by_generation, by_grammar, by_label, by_request, by_response, row_of}
-use Rattle.label_table.specs.Layer.{facts_of}
-use Rattle.sbp_journal.specs.Addresses.{Access, access_of}
-use Rattle.sbp_journal.specs.Outgoings.{empty_outbox}
-use Rattle.sbp_journal.specs.Rows.{first_or, ignored_as, serving, telling}
-use Rattle.sbp_journal.specs.Run.{Moment, asked, said}
-use Rattle.sbp_journal.specs.Transactions.{Sending}
-use Rattle.sbp_journal.specs.Wire.{terms}
+use Rattle.sbp_world.proofs.Words.Std.{arith, ◌≡◌, refl, sym, ◌∙◌, ap, ℕ, suc, ◌==◌, ◌&&◌, ◌||◌, not, Bool, true, false, List, [], ◌∷◌, ◌++◌, Option, Some, Result, Ok, Err, nat_tests}
+use Rattle.sbp_world.proofs.Words.Wire.{Packet, header_in, reading, PacketFault, Row, by_again, by_generation, by_grammar, by_label, by_request, by_response, row_of, facts_of, Access, access_of, empty_outbox, first_or, ignored_as, serving, telling, Moment, asked, said, Sending, terms, Judged, Note, Side, judged_note}
+use Rattle.sbp_world.proofs.Words.Initiator.{InitiatorState, receive_step, is_step, facts_at, fifo_for, is_open, judging_by, note_by, note_of}
+use Rattle.sbp_world.proofs.Words.Laws.{is_effect}
+use Rattle.sbp_world.proofs.Words.World.{behind}
 use Rattle.sbp_journal.specs.declared.cause.Cause.TheVariants as causes
-use Rattle.sbp_journal.specs.declared.cause.Judged.{Judged}
 use Rattle.sbp_journal.specs.declared.cause.Judged.TheVariants as judgements
-use Rattle.sbp_journal.specs.declared.note.Note.{Note}
 use Rattle.sbp_journal.specs.declared.note.Note.TheVariants as notes
-use Rattle.sbp_journal.specs.declared.side.Side.{Side}
 use Rattle.sbp_journal.specs.declared.side.Side.TheVariants as sides
-use Rattle.sbp_initiator.specs.declared.state.InitiatorState.{InitiatorState}
-use Rattle.sbp_initiator.specs.Receiving.{receive_step}
-use Rattle.sbp_initiator.specs.Steps.{is_step}
-use Rattle.sbp_bus.specs.Packets.{judged_note}
-use Rattle.sbp_laws.specs.Deliveries.{is_effect}
 use Rattle.sbp_world.proofs.Wire.Effects.{AreEffectSides, IsEffectSide}
 use Rattle.sbp_world.proofs.Wire.OwnActs.{AreStepSides, IsStepSide}
-use Rattle.sbp_initiator.specs.Histories.Judging.{facts_at, fifo_for, is_open, judging_by, note_by, note_of}
 use Rattle.sbp_initiator.proofs.Histories.Judging.{judging_law}
-use Rattle.sbp_world.specs.Hosts.Calls.{behind, by_side}
+use Rattle.sbp_world.specs.Hosts.Calls.{by_side}
 use Rattle.sbp_world.proofs.Hosts.MemoryRcodes.{and_true}
 use Rattle.sbp_world.proofs.Hosts.Shown.{IsElsewhere, IsHeard}
 

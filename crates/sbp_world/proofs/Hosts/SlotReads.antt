@@ -1,19 +1,11 @@
 -- The response to a read of a slot carries what was prepared there.
-use Rattle.std.proofs.Common.{◌≡◌, refl, sym, ◌∙◌, ap, subst, ℕ, ◌<◌, List, ◌∷◌, ◌++◌, map, take, drop, Some}
-use Rattle.std.proofs.lemmas.Option.{same_Some}
-use Rattle.orb_layout.specs.Pointers.{pointer_at}
-use Rattle.orb_list.specs.Layout.{table_bytes}
-use Rattle.page_table.specs.Buffer.{addresses, buffer_addresses}
-use Rattle.sbp_journal.specs.Addresses.{Access, access_of}
-use Rattle.sbp_journal.specs.Run.{Moment, said}
+use Rattle.sbp_world.proofs.Words.Std.{◌≡◌, refl, sym, ◌∙◌, ap, subst, ℕ, ◌<◌, List, ◌∷◌, ◌++◌, map, take, drop, Some, same_Some}
+use Rattle.sbp_world.proofs.Words.Wire.{Access, access_of, Moment, said, Packet}
+use Rattle.sbp_world.proofs.Words.Initiator.{pointer_at, table_bytes, addresses, buffer_addresses}
+use Rattle.sbp_world.proofs.Words.Laws.{IsRead, laid_out, Orb, prepared_in, host_reply}
+use Rattle.sbp_world.proofs.Words.World.{Follows, next_of, AreReads, CarriesOrb, IsReadWith, payload_of}
 use Rattle.sbp_journal.specs.declared.note.Note.TheVariants as notes
-use Rattle.async_packet.specs.Packet.{Packet}
-use Rattle.sbp_laws.specs.CarriedBytes.{IsRead, laid_out}
-use Rattle.sbp_laws.specs.Lists.{Orb, prepared_in}
-use Rattle.sbp_laws.specs.Served.{host_reply}
-use Rattle.sbp_world.specs.Hosts.Carrying.{Follows, IsServed}
-use Rattle.sbp_world.specs.Hosts.Orbs.{next_of}
-use Rattle.sbp_world.specs.Hosts.Responses.{AreReads, CarriesOrb, IsReadWith, payload_of}
+use Rattle.sbp_world.specs.Hosts.Carrying.{IsServed}
 use Rattle.sbp_world.proofs.Hosts.ReadsHeld.{carried_so, next_so}
 use Rattle.sbp_world.proofs.Hosts.Replied.{IsReplied}
 use Rattle.sbp_world.proofs.Hosts.ResponseBytes.{IsBlockRead, block_read}

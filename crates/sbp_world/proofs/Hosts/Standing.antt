@@ -1,25 +1,15 @@
 -- A response stands right behind the note by which its request was judged.
-use Rattle.std.proofs.Common.{◌≡◌, refl, sym, ◌∙◌, ap, subst, ℕ, Bool, true, false, List, [], ◌∷◌, ◌++◌, Option, Some, None}
-use Rattle.async_packet.specs.Fields.{rcode_of}
-use Rattle.bus_transactions.specs.Answers.{AreAnswered, IsSentFor}
-use Rattle.bus_transactions.specs.May.{is_plain}
-use Rattle.sbp_journal.specs.Run.{Moment, asked, said}
-use Rattle.sbp_journal.specs.Transactions.{Kind, Part, Sending, Transaction, asked_by, between, begun_by, no_packet, part_of, request, response}
-use Rattle.sbp_journal.specs.Wire.{Owed, Terms, begins, gets, gets_as, ignores, ignores_that, judges, judges_if, opened, puts, sends, terms}
-use Rattle.sbp_journal.specs.declared.cause.Cause.{Cause}
+use Rattle.sbp_world.proofs.Words.Std.{◌≡◌, refl, sym, ◌∙◌, ap, subst, ℕ, Bool, true, false, List, [], ◌∷◌, ◌++◌, Option, Some, None}
+use Rattle.sbp_world.proofs.Words.Wire.{rcode_of, AreAnswered, IsSentFor, is_plain, Moment, asked, said, Kind, Part, Sending, Transaction, asked_by, between, begun_by, part_of, request, response, Owed, Terms, begins, gets, gets_as, ignores, ignores_that, judges, judges_if, opened, puts, sends, terms, Cause, Event, Note}
+use Rattle.sbp_world.proofs.Words.World.{history_of, Run, after, beginning, IsRun, IsOwedThere, StandingLaw, StandsBehind, note_of}
+use Rattle.sbp_journal.specs.Transactions.{no_packet}
 use Rattle.sbp_journal.specs.declared.cause.Cause.TheVariants as causes
-use Rattle.sbp_journal.specs.declared.event.Event.{Event}
 use Rattle.sbp_journal.specs.declared.event.Event.TheVariants as events
-use Rattle.sbp_journal.specs.declared.note.Note.{Note}
 use Rattle.sbp_journal.specs.declared.note.Note.TheVariants as notes
-use Rattle.sbp_world.specs.Histories.{history_of}
-use Rattle.sbp_world.specs.Runs.{Run, after, beginning}
 use Rattle.sbp_world.proofs.FitInitiator.Law.{fitting_law as own_fitting_law}
 use Rattle.sbp_world.proofs.FitTarget.Law.{fitting_law}
 use Rattle.sbp_world.proofs.Wire.Runs.{sound_after}
 use Rattle.sbp_world.proofs.Wire.Starts.{laws_of}
-use Rattle.sbp_world.specs.Hosts.Runs.{IsRun}
-use Rattle.sbp_world.specs.Hosts.Standing.{IsOwedThere, StandingLaw, StandsBehind, note_of}
 use Rattle.sbp_world.proofs.Lists.ManageTerms.{closes_owes, late_owes}
 use Rattle.sbp_world.proofs.Lists.ManageSends.{pays_owes}
 

@@ -1,5 +1,5 @@
 -- The law of the steps of the slots.
-use Rattle.sbp_world.specs.Hosts.Steps.{StepLaw}
+use Rattle.sbp_world.proofs.Words.World.{StepLaw}
 use Rattle.sbp_world.proofs.Hosts.Appends.{append_rows}
 use Rattle.sbp_world.proofs.Hosts.Beside.{begins, beside_rests, sent_rests, pin_told}
 use Rattle.sbp_world.proofs.Hosts.Told.{low_told, high_told, taken_told, dropped_told, unpins}

@@ -1,19 +1,14 @@
 -- Slots whose ORBs are over become free, in the table and in the run terms.
-use Rattle.std.proofs.Common.{arith, ◌≡◌, refl, sym, ◌∙◌, ap, subst, ℕ, suc, ◌<◌, ◌&&◌, ◌||◌, not, nat_lt, Bool, true, false, cond, List, [], ◌∷◌, length, map, Option, Some, None}
-use Rattle.std.proofs.lemmas.List.{get_or-map, length-map}
-use Rattle.orb_list.specs.declared.list.PresentList.{PresentList}
-use Rattle.orb_list.specs.declared.slot.SlotState.{SlotState}
+use Rattle.sbp_world.proofs.Words.Std.{arith, ◌≡◌, refl, sym, ◌∙◌, ap, subst, ℕ, suc, ◌<◌, ◌&&◌, ◌||◌, not, nat_lt, Bool, true, false, cond, List, [], ◌∷◌, length, map, Option, Some, None, length-map}
+use Rattle.sbp_world.proofs.Words.Wire.{Moment}
+use Rattle.sbp_world.proofs.Words.Initiator.{PresentList, SlotState, Slot, TicketParts, is_ticket, SlotTable, slot_in, unused, is_free, free_state, next_is_linked, over_for, over_in, is_over, released, waiting}
+use Rattle.sbp_world.proofs.Words.Laws.{Orb, TakenStatus, Row, vacant, used, resting}
+use Rattle.sbp_world.proofs.Words.World.{name_in, row, ListTerms, terms_at, over_at, IfLast, StateFits, Waits, IfList, IfHeld, Fits, Frees, over_now, Swept, Rows}
+use Rattle.std.proofs.lemmas.List.{get_or-map}
 use Rattle.orb_list.specs.declared.slot.SlotState.TheVariants as states
-use Rattle.orb_list.specs.declared.slot.Slot.{Slot}
-use Rattle.orb_list.specs.Tickets.{TicketParts, is_ticket}
 use Rattle.orb_list.specs.Table as table
-use Rattle.orb_list.specs.Table.{SlotTable, slot_in, unused, is_free, free_state, next_is_linked, over_for, over_in, is_over, released, waiting}
 use Rattle.orb_list.proofs.Tied.{ticket_itself, released_last, released_waits}
-use Rattle.sbp_journal.specs.Run.{Moment}
 use Rattle.sbp_laws.specs.Lists as terms
-use Rattle.sbp_laws.specs.Lists.{Orb, TakenStatus, SlotState as Row, vacant, used, resting}
-use Rattle.sbp_world.specs.Hosts.Rows.{name_in, row}
-use Rattle.sbp_world.specs.Hosts.Fits.{ListTerms, terms_at, over_at, IfLast, StateFits, Waits, IfList, IfHeld, Fits, Frees, over_now, Swept, Rows}
 use Rattle.sbp_world.proofs.Hosts.Over.{settles}
 
 -- A term of the run frees a slot so.

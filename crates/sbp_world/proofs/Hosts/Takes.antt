@@ -1,20 +1,12 @@
 -- The status of an ORB is taken.
-use Rattle.std.proofs.Common.{arith, ◌≡◌, refl, sym, ◌∙◌, ap, subst, ℕ, zero, suc, ◌+◌, ◌-◌, ◌<◌, ◌≤◌, ◌==◌, ◌&&◌, not, max, nat_eq, Bool, true, false, cond, List, [], ◌∷◌, length, map, slice_set, Option, Some, None}
-use Rattle.std.proofs.Math.ListN.{length-set}
-use Rattle.std.proofs.lemmas.Bool.Decides.{nat_tests}
-use Rattle.orb_layout.specs.declared.status.StatusKind.{StatusKind}
-use Rattle.orb_layout.specs.StatusBlocks.{row_of}
-use Rattle.orb_list.specs.declared.list.PresentList.{PresentList}
-use Rattle.orb_list.specs.declared.slot.SlotState.{SlotState}
+use Rattle.sbp_world.proofs.Words.Std.{arith, ◌≡◌, refl, sym, ◌∙◌, ap, subst, ℕ, zero, suc, ◌+◌, ◌-◌, ◌<◌, ◌≤◌, ◌==◌, ◌&&◌, not, max, nat_eq, Bool, true, false, cond, List, [], ◌∷◌, length, map, Option, Some, None, length-set, nat_tests}
+use Rattle.sbp_world.proofs.Words.Initiator.{StatusKind, row_of, PresentList, SlotState, Slot, TicketParts, SlotTable, slot_in, is_free, waiting, waits_in}
+use Rattle.sbp_world.proofs.Words.Laws.{TakenStatus, Row, used, resting, rests_at}
+use Rattle.sbp_world.proofs.Words.World.{name, name_in, row, row_by, ListTerms, over_at, LastFits, IfLast, StateFits, Waits, IfHeld, Fits, Frees, Rows}
+use Rattle.std.proofs.Common.{slice_set}
 use Rattle.orb_list.specs.declared.slot.SlotState.TheVariants as states
-use Rattle.orb_list.specs.declared.slot.Slot.{Slot}
-use Rattle.orb_list.specs.Tickets.{TicketParts}
 use Rattle.orb_list.specs.Table as table
-use Rattle.orb_list.specs.Table.{SlotTable, slot_in, is_free, waiting, waits_in}
 use Rattle.orb_list.proofs.Tied.{set_here, set_there, waits_last}
-use Rattle.sbp_laws.specs.Lists.{TakenStatus, SlotState as Row, used, resting, rests_at}
-use Rattle.sbp_world.specs.Hosts.Rows.{name, name_in, row, row_by}
-use Rattle.sbp_world.specs.Hosts.Fits.{ListTerms, over_at, LastFits, IfLast, StateFits, Waits, IfHeld, Fits, Frees, Rows}
 use Rattle.sbp_world.proofs.Hosts.Over.{one_ticket, last_at, slot_is, here}
 use Rattle.sbp_world.proofs.Hosts.Sweeps.{closes}
 use Rattle.sbp_world.proofs.Common.{itself}

@@ -1,28 +1,13 @@
 -- What the target tells in each call is no note of an initiator, and what it sends is no write of a quadlet.
-use Rattle.std.proofs.Common.{subst, ℕ, ◌==◌, ◌++◌, ◌∷◌, nat_le, Bool, true, false, cond, List, [], length, Option, Some, None}
-use Rattle.async_packet.specs.Fields.{largest}
-use Rattle.async_packet.specs.Labels.{LabelParts}
-use Rattle.async_packet.specs.Packet.{Packet}
-use Rattle.label_table.specs.declared.judgement.Asked.{Asked}
-use Rattle.label_table.specs.Bodies.{Body, block_read, block_write, quadlet_read}
-use Rattle.label_table.specs.Layer.{Layer, answering_step, asking_step, judging_step}
-use Rattle.orb_layout.specs.declared.ask.Ask.{Ask}
+use Rattle.sbp_world.proofs.Words.Std.{subst, ℕ, ◌==◌, ◌++◌, ◌∷◌, nat_le, Bool, true, false, cond, List, [], length, Option, Some, None}
+use Rattle.sbp_world.proofs.Words.Wire.{largest, LabelParts, Packet, Asked, Body, block_read, block_write, quadlet_read, Layer, answering_step, asking_step, judging_step, Outgoing, Side}
+use Rattle.sbp_world.proofs.Words.Target.{Told, Purpose, agent_body, response, with_asked, Asks, Moves, by_agent, by_disc, by_manager, free, Tells, announced, back, cleared, departed, died, ended, failed, lapsed, managed, opened, plain, ran, unsent, was_cut, manager_body, Scene, TellsIn, expired, received, seen, ticked, with_layer, Whole, scene_of}
+use Rattle.sbp_world.proofs.Words.Initiator.{Ask}
+use Rattle.sbp_world.proofs.Words.World.{AreOthers, IsOther}
 use Rattle.orb_layout.specs.declared.ask.Ask.TheVariants as asks_for
-use Rattle.rbc_disk.specs.Runs.{Told}
-use Rattle.sbp_journal.specs.declared.outbox.Outgoing.{Outgoing}
-use Rattle.sbp_journal.specs.declared.side.Side.{Side}
-use Rattle.sbp_target.specs.declared.purpose.Purpose.{Purpose}
-use Rattle.sbp_target.specs.Agents.{agent_body}
-use Rattle.sbp_target.specs.Histories.Layers.{response, with_asked}
-use Rattle.sbp_target.specs.Histories.Moves.{Asks, Moves, by_agent, by_disc, by_manager, free}
-use Rattle.sbp_target.specs.Histories.Moves.{Tells, announced, back, cleared, departed, died, ended, failed, held, lapsed, managed, opened, plain, ran, unsent, was_cut}
-use Rattle.sbp_target.specs.Management.{manager_body}
-use Rattle.sbp_target.specs.Nodes.{Scene}
-use Rattle.sbp_target.specs.Receiving.{TellsIn, expired, received, seen, ticked, with_layer}
-use Rattle.sbp_target.specs.Replies.{Whole, scene_of}
+use Rattle.sbp_target.specs.Histories.Moves.{held}
 use Rattle.sbp_target.proofs.Histories.Views.{packets_kept, sides_kept}
 use Rattle.sbp_target.proofs.Histories.Views as moves
-use Rattle.sbp_world.specs.Hosts.Handing.{AreOthers, IsOther}
 use Rattle.sbp_world.proofs.Hosts.Mild.{AreMild, FromTarget, IsMild, IsMildAsked, IsMildBody, asked_mild, response_mild}
 use Rattle.sbp_world.proofs.Hosts.Others.{more}
 

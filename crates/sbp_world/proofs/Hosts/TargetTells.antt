@@ -1,11 +1,8 @@
 -- What the target tells as a transaction of it times out is no note of an initiator.
+use Rattle.sbp_world.proofs.Words.Wire.{LabelParts, Outgoing, Side}
+use Rattle.sbp_world.proofs.Words.Target.{Scene, expired}
+use Rattle.sbp_world.proofs.Words.World.{AreOthers}
 use Rattle.std.specs.Prelude.{ℕ, List, [], ◌∷◌}
-use Rattle.async_packet.specs.Labels.{LabelParts}
-use Rattle.sbp_journal.specs.declared.outbox.Outgoing.{Outgoing}
-use Rattle.sbp_journal.specs.declared.side.Side.{Side}
-use Rattle.sbp_target.specs.Nodes.{Scene}
-use Rattle.sbp_target.specs.Receiving.{expired}
-use Rattle.sbp_world.specs.Hosts.Handing.{AreOthers}
 use Rattle.sbp_world.proofs.Hosts.Mild.{AreMild}
 use Rattle.sbp_world.proofs.Hosts.TargetGives as gives
 

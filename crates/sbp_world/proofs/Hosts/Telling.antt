@@ -1,42 +1,16 @@
 -- An action that is done tells the notes that the run asks for.
-use Rattle.std.proofs.Common.{arith, ◌≡◌, refl, sym, ◌∙◌, ap, subst, ℕ, suc, ◌+◌, ◌-◌, ◌==◌, not, is_some, Bool, true, false, cond, List, [], ◌∷◌, ◌++◌, Option, Some, None, Ok}
-use Rattle.std.proofs.lemmas.List.{append-nil}
-use Rattle.std.proofs.lemmas.Bool.{not-false}
-use Rattle.label_table.specs.declared.judgement.Asked.{Asked as Label}
-use Rattle.label_table.specs.Layer.{Layer}
-use Rattle.orb_list.specs.declared.list.Link.{Link}
+use Rattle.sbp_world.proofs.Words.Std.{arith, ◌≡◌, refl, sym, ◌∙◌, ap, subst, ℕ, suc, ◌+◌, ◌-◌, ◌==◌, not, is_some, Bool, true, false, cond, List, [], ◌∷◌, ◌++◌, Option, Some, None, Ok, append-nil, not-false}
+use Rattle.sbp_world.proofs.Words.Wire.{Label, Layer, Moment, OutboxState, buffer_of, Action, Cmd, Side}
+use Rattle.sbp_world.proofs.Words.Initiator.{Link, Linking, PresentList, SlotTable, find_in, list_number, may_prepare, next_ticket, orb_number, waits_high, waits_low, TicketParts, ticket, Demand, Purpose, InitiatorState, high_lists, low_lists, stepped, asked_by, prepared_as, put_lists, refusal, rows_of, no_marks, Turn, told, act_step, append_step, asked_as, asked_for, demand_of, demanded_as, done_step, dummy_for, facts_with, judged_as, link_as, link_step, login_id, low_as, low_step, put_as, put_step, ring_for, ring_step, own}
+use Rattle.sbp_world.proofs.Words.Laws.{action_notes, append_notes, new_list, new_number, refusals, Host, linked}
+use Rattle.sbp_world.proofs.Words.World.{AreRows, ReadAs, last_linked, ActionLaw, HasRows}
 use Rattle.orb_list.specs.declared.list.Link.TheVariants as links
-use Rattle.orb_list.specs.declared.list.Linking.{Linking}
-use Rattle.orb_list.specs.declared.list.PresentList.{PresentList}
 use Rattle.orb_list.specs.Table as table
-use Rattle.orb_list.specs.Table.{SlotTable, find_in, list_number, may_prepare, next_ticket, orb_number, waits_high, waits_low}
-use Rattle.orb_list.specs.Tickets.{TicketParts, ticket}
-use Rattle.sbp_journal.specs.Run.{Moment}
-use Rattle.sbp_journal.specs.Outgoings.{OutboxState}
-use Rattle.sbp_journal.specs.Buffers.{buffer_of}
-use Rattle.sbp_journal.specs.declared.event.Action.{Action}
 use Rattle.sbp_journal.specs.declared.event.Action.TheVariants as actions
-use Rattle.sbp_journal.specs.declared.event.Cmd.{Cmd}
 use Rattle.sbp_journal.specs.declared.note.Note.TheVariants as notes
-use Rattle.sbp_journal.specs.declared.side.Side.{Side}
 use Rattle.sbp_journal.specs.declared.side.Side.TheVariants as sides
-use Rattle.sbp_initiator.specs.declared.purpose.Demand.{Demand}
-use Rattle.sbp_initiator.specs.declared.purpose.Purpose.{Purpose}
-use Rattle.sbp_initiator.specs.declared.state.InitiatorState.{InitiatorState}
-use Rattle.orb_list.specs.Lists.{high_lists, low_lists, stepped}
-use Rattle.sbp_initiator.specs.Commands.{asked_by, prepared_as, put_lists}
-use Rattle.sbp_initiator.specs.Refusals.{refusal, rows_of}
-use Rattle.sbp_initiator.specs.States.{no_marks}
-use Rattle.sbp_initiator.specs.Effects.{Turn, told}
-use Rattle.sbp_initiator.specs.Acting.{act_step, append_step, asked_as, asked_for, demand_of, demanded_as, done_step, dummy_for, facts_with, judged_as, link_as, link_step, login_id, low_as, low_step, put_as, put_step, ring_for, ring_step}
-use Rattle.sbp_initiator.specs.Histories.Ends.{own}
 use Rattle.sbp_initiator.proofs.Histories.Actions.{is_ok}
-use Rattle.sbp_laws.specs.Actions.{action_notes, append_notes, new_list, new_number, refusals}
-use Rattle.sbp_laws.specs.Hosts.{Host}
-use Rattle.sbp_laws.specs.Lists.{linked}
-use Rattle.sbp_world.specs.Hosts.Fits.{IsOf, AreRows}
-use Rattle.sbp_world.specs.Hosts.Reading.{ReadAs, last_linked}
-use Rattle.sbp_world.specs.Hosts.Acting.{ActionLaw, HasRows}
+use Rattle.sbp_world.specs.Hosts.Fits.{IsOf}
 use Rattle.sbp_world.proofs.Hosts.Acts.{Goes, found_number, goes_layer, goes_on, some_waits}
 use Rattle.sbp_world.proofs.Hosts.Beside.{find_waits, found_list}
 use Rattle.sbp_world.proofs.Hosts.Readings.{read_as}

@@ -1,30 +1,17 @@
 -- Each step of the slots, with the note that tells it.
-use Rattle.std.proofs.Common.{◌≡◌, refl, sym, ◌∙◌, ap, subst, slice_set, ℕ, suc, ◌+◌, ◌<◌, ◌==◌, Bool, true, cond, List, ◌∷◌, map, max, Option, Some, None, Ok}
-use Rattle.bus_memory.specs.Memory.{Memory}
-use Rattle.bus_memory.specs.Windows.{slot_of}
-use Rattle.orb_layout.specs.declared.status.StatusBlock.{StatusBlock}
-use Rattle.orb_list.specs.declared.list.Link.{Link}
+use Rattle.sbp_world.proofs.Words.Std.{◌≡◌, refl, sym, ◌∙◌, ap, subst, ℕ, suc, ◌+◌, ◌<◌, ◌==◌, Bool, true, cond, List, ◌∷◌, map, max, Option, Some, None, Ok}
+use Rattle.sbp_world.proofs.Words.Wire.{Moment, said, wire_terms, OpWord}
+use Rattle.sbp_world.proofs.Words.Initiator.{Memory, slot_of, StatusBlock, Link, Linking, PresentList, SlotState, TicketParts, SlotTable, slot_in, waiting, low_in, high_in, low_for, high_for, waits_low, waits_high, row_of}
+use Rattle.sbp_world.proofs.Words.Laws.{access_at, TakenStatus, Row, put_to_rest, last_got, src_in, pinned_orb}
+use Rattle.sbp_world.proofs.Words.World.{name_in, terms_at, over_at, StateFits, Frees, Rows, AreRows, MayTake}
+use Rattle.std.proofs.Common.{slice_set}
 use Rattle.orb_list.specs.declared.list.Link.TheVariants as links
-use Rattle.orb_list.specs.declared.list.Linking.{Linking}
-use Rattle.orb_list.specs.declared.list.PresentList.{PresentList}
-use Rattle.orb_list.specs.declared.slot.SlotState.{SlotState}
 use Rattle.orb_list.specs.declared.slot.SlotState.TheVariants as states
-use Rattle.orb_list.specs.Tickets.{TicketParts}
 use Rattle.orb_list.specs.Table as table
-use Rattle.orb_list.specs.Table.{SlotTable, slot_in, waiting, low_in, high_in, low_for, high_for, waits_low, waits_high}
 use Rattle.orb_list.proofs.Tied.{past_slots, waits_last}
-use Rattle.sbp_journal.specs.Run.{Moment, said}
-use Rattle.sbp_journal.specs.Wire.{terms as wire_terms}
 use Rattle.sbp_journal.specs.declared.note.Note.TheVariants as notes
 use Rattle.sbp_journal.specs.declared.operation.Operation.TheVariants as operations
-use Rattle.sbp_journal.specs.declared.operation.OpWord.{OpWord}
-use Rattle.sbp_laws.specs.Packets.{access_at}
 use Rattle.sbp_laws.specs.Lists as terms
-use Rattle.sbp_laws.specs.Lists.{TakenStatus, SlotState as Row, put_to_rest, last_got, src_in, pinned_orb}
-use Rattle.orb_layout.specs.StatusBlocks.{row_of}
-use Rattle.sbp_world.specs.Hosts.Rows.{name_in}
-use Rattle.sbp_world.specs.Hosts.Fits.{terms_at, over_at, StateFits, Frees, Rows, AreRows}
-use Rattle.sbp_world.specs.Hosts.Steps.{MayTake}
 use Rattle.sbp_world.proofs.Hosts.Over.{last_at}
 use Rattle.sbp_world.proofs.Hosts.Sweeps.{frees, rests}
 use Rattle.sbp_world.proofs.Hosts.Links.{low_terms, link_terms, low_rows, high_rows}

@@ -1,23 +1,14 @@
 -- What is added to a history without an end of an ORB: the counts of ends are the same, and the order law is kept.
-use Rattle.std.proofs.Common.{◌≡◌, ◌∙◌, refl, sym, ap, not, ◌==◌, ◌+◌, ℕ, Bool, true, false, List, [], ◌∷◌, ◌++◌, length, Option, Some, None}
-use Rattle.async_packet.specs.Labels.{LabelParts}
-use Rattle.sbp_bus.specs.Generations.{node_of}
-use Rattle.sbp_journal.specs.declared.note.Note.{Note}
+use Rattle.sbp_world.proofs.Words.Std.{◌≡◌, ◌∙◌, refl, sym, ap, not, ◌==◌, ◌+◌, ℕ, Bool, true, false, List, [], ◌∷◌, ◌++◌, length, Option, Some, None}
+use Rattle.sbp_world.proofs.Words.Wire.{LabelParts, node_of, Note, Outgoing, Side, Moment, said}
+use Rattle.sbp_world.proofs.Words.Initiator.{own}
+use Rattle.sbp_world.proofs.Words.Laws.{ends, ran_status, runs, OrderLaw, is_cut}
+use Rattle.sbp_world.proofs.Words.World.{under_way, posted, sent, sent_all, sent_to, told, told_all, WorldState, with_note, IsAppend}
 use Rattle.sbp_journal.specs.declared.note.Note.TheVariants as notes
-use Rattle.sbp_journal.specs.declared.outbox.Outgoing.{Outgoing}
-use Rattle.sbp_journal.specs.declared.side.Side.{Side}
 use Rattle.sbp_journal.specs.declared.side.Side.TheVariants as sides
-use Rattle.sbp_journal.specs.Run.{Moment, said}
-use Rattle.sbp_laws.specs.Terms.{ends, ran_status, runs}
-use Rattle.sbp_world.specs.Sending.{asked as under_way, posted, sent, sent_all, sent_to}
-use Rattle.sbp_world.specs.Telling.{told, told_all}
-use Rattle.sbp_world.specs.Worlds.{WorldState, with_note}
-use Rattle.sbp_initiator.specs.Histories.Ends.{own}
 use Rattle.sbp_world.proofs.Formed.{AreOwn, IsNoRun}
 use Rattle.sbp_world.proofs.Agents.Management.Still.{hist}
 use Rattle.sbp_world.proofs.Hosts.OrbTerms.{AreStill, is_left}
-use Rattle.sbp_laws.specs.OrderLaw.{OrderLaw, is_cut}
-use Rattle.sbp_world.specs.Lists.Orders.{IsAppend}
 use Rattle.sbp_world.proofs.Lists.Passing.{PassLaw}
 use Rattle.sbp_world.proofs.Common.{moments_joined, itself}
 use Rattle.sbp_world.proofs.Lists.Stands.{no}

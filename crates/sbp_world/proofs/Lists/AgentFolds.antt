@@ -1,15 +1,10 @@
 -- What is said of each agent of the terms of the target, by its place, where what is done with an agent keeps it: what ends a turn keeps it, and a reply that takes its agent on.
-use Rattle.std.proofs.Common.{◌≡◌, ◌∙◌, ◌⊎◌, inl, inr, refl, sym, ap, subst, arith, ◌+◌, ℕ, zero, suc, ◌==◌, Bool, true, false, cond, List, [], ◌∷◌, map, Option, Some, None}
-use Rattle.std.specs.Prelude.{replicate, slice_index_or, slice_set}
-use Rattle.std.proofs.lemmas.Bool.Decides.{nat_tests}
-use Rattle.command_agent.specs.declared.step.Which.{Which}
-use Rattle.command_agent.specs.Machine.{new_machine}
-use Rattle.command_agent.specs.Steps.{reply_step, reset_step}
-use Rattle.orb_layout.specs.Replies.{Answer}
-use Rattle.rbc_disk.specs.Runs.{Told}
-use Rattle.rbc_disk.specs.Units.{PlainDisk}
-use Rattle.sbp_journal.specs.declared.note.Note.{Note}
-use Rattle.sbp_laws.specs.Targets.{Agent, Reply, Target, agent_at, agent_over, closed, cut_agent, cut_where, going_on, main_lost, moved, new_agent, over, plain_for, reply_of, sends_of, taken_on, told_in, untold_by, with_agent, with_untold}
+use Rattle.sbp_world.proofs.Words.Std.{◌≡◌, ◌∙◌, ◌⊎◌, inl, inr, refl, sym, ap, subst, arith, ◌+◌, ℕ, zero, suc, ◌==◌, Bool, true, false, cond, List, [], ◌∷◌, map, Option, Some, None, slice_index_or, slice_set, nat_tests}
+use Rattle.sbp_world.proofs.Words.Wire.{Note}
+use Rattle.sbp_world.proofs.Words.Target.{Which, new_machine, reply_step, reset_step, Told, PlainDisk}
+use Rattle.sbp_world.proofs.Words.Initiator.{Answer}
+use Rattle.sbp_world.proofs.Words.Laws.{Agent, Reply, Target, agent_at, agent_over, closed, cut_agent, cut_where, going_on, main_lost, moved, new_agent, over, plain_for, reply_of, sends_of, taken_on, told_in, untold_by, with_agent, with_untold}
+use Rattle.std.specs.Prelude.{replicate}
 use Rattle.sbp_world.proofs.Common.{equal, none_is}
 
 -- ---- lists of agents

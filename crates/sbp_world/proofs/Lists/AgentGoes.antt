@@ -1,32 +1,18 @@
 -- What a note but of a packet that is got makes of each agent of the terms of the target: where all that is done with an agent is so, as it was and as it is, the note's is.
-use Rattle.std.proofs.Common.{◌≡◌, refl, sym, subst, ◌==◌, not, ℕ, zero, suc, ◌+◌, Bool, true, false, cond, List, [], ◌∷◌, map, Option, Some, None, Result, Ok, Err}
-use Rattle.std.specs.Prelude.{is_none, position, slice_set}
-use Rattle.command_agent.specs.Steps.{reply_step}
-use Rattle.rbc_disk.specs.Units.{PlainDisk}
+use Rattle.sbp_world.proofs.Words.Std.{◌≡◌, refl, sym, subst, ◌==◌, not, ℕ, zero, suc, ◌+◌, Bool, true, false, cond, List, [], ◌∷◌, map, Option, Some, None, Result, Ok, Err, is_none, position, slice_set}
+use Rattle.sbp_world.proofs.Words.Wire.{Moment, Part, part_of, request, response, Terms, Event, Note}
+use Rattle.sbp_world.proofs.Words.Target.{reply_step, PlainDisk, Effect, ManagerStep, Busy, Table, Told}
+use Rattle.sbp_world.proofs.Words.Initiator.{Ask, Nothing, Answer, Expired}
+use Rattle.sbp_world.proofs.Words.Laws.{access_in_bytes, sender_in, Agent, Decided, Purpose, Reply, Target, agent_at, agent_over, closed, cut_agent, cut_where, decided_by, keep_decided, plain_for, reply_of, untold_by, effect_on, enters_in, for_agent, for_manager, for_nobody, going_on, is_serial, is_write_access, key_by, main_lost, managed_by, manager_step, moved, new_agent, on_unit, over, purpose_of, replied, replied_to, reset_seen, sends_of, sent_as, sent_for, started_by, taken_on, target_by, told_in, wants, wants_it, with_untold, is_own_run, ran_on, event_of}
+use Rattle.sbp_world.proofs.Words.World.{agent_in}
 use Rattle.command_agent.specs.Steps as steps
-use Rattle.mgmt_agent.specs.declared.decision.Effect.{Effect}
 use Rattle.mgmt_agent.specs.declared.decision.Effect.TheVariants as effects
-use Rattle.mgmt_agent.specs.declared.decision.ManagerStep.{ManagerStep}
-use Rattle.mgmt_agent.specs.declared.operation.Busy.{Busy}
 use Rattle.mgmt_agent.specs.Machine as manager
-use Rattle.login_table.specs.Table.{Table}
-use Rattle.orb_layout.specs.declared.ask.Ask.{Ask}
-use Rattle.orb_layout.specs.declared.ask.Ask.TheVariants.{Nothing}
 use Rattle.orb_layout.specs.declared.ask.FailCause.TheVariants as causes
-use Rattle.orb_layout.specs.Replies.{Answer, Expired}
-use Rattle.rbc_disk.specs.Runs.{Told}
-use Rattle.sbp_journal.specs.Run.{Moment}
-use Rattle.sbp_journal.specs.Transactions.{Part, no_packet, part_of, request, response}
-use Rattle.sbp_journal.specs.Wire.{Terms}
-use Rattle.sbp_journal.specs.declared.event.Event.{Event}
+use Rattle.sbp_journal.specs.Transactions.{no_packet}
 use Rattle.sbp_journal.specs.declared.event.Event.TheVariants as events
-use Rattle.sbp_journal.specs.declared.note.Note.{Note}
 use Rattle.sbp_journal.specs.declared.note.Note.TheVariants as notes
 use Rattle.sbp_journal.specs.declared.operation.FunctionWord.TheVariants as functions
-use Rattle.sbp_laws.specs.Packets.{access_in_bytes, sender_in}
-use Rattle.sbp_laws.specs.Targets.{Agent, Decided, Purpose, Reply, Target, agent_at, agent_over, closed, cut_agent, cut_where, decided_by, keep_decided, plain_for, reply_of, untold_by, effect_on, enters_in, for_agent, for_manager, for_nobody, going_on, is_serial, is_write_access, key_by, main_lost, managed_by, manager_step, moved, new_agent, on_unit, over, purpose_of, replied, replied_to, reset_seen, sends_of, sent_as, sent_for, started_by, taken_on, target_by, told_in, wants, wants_it, with_untold, is_own_run, ran_on}
-use Rattle.sbp_laws.specs.Turns.{event_of}
-use Rattle.sbp_world.specs.Agents.Crews.{agent_in}
 
 -- any note but of a packet that is got
 abbrev pub IsNoGot : Note → Type 0

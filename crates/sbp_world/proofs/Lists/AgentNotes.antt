@@ -1,27 +1,16 @@
 -- What is said of each agent of the terms of the target, where what is done with an agent keeps it: each note keeps it, but for a packet that is got, a time-out and a login, which are said apart.
-use Rattle.std.proofs.Common.{◌≡◌, refl, ℕ, ◌==◌, not, Bool, true, false, cond, List, Option, Some, None}
-use Rattle.std.specs.Prelude.{position}
-use Rattle.command_agent.specs.Steps.{abort_step}
-use Rattle.login_table.specs.Table.{Table}
-use Rattle.mgmt_agent.specs.declared.decision.Effect.{Effect}
+use Rattle.sbp_world.proofs.Words.Std.{◌≡◌, refl, ℕ, ◌==◌, not, Bool, true, false, cond, List, Option, Some, None, position}
+use Rattle.sbp_world.proofs.Words.Wire.{Moment, Part, part_of, request, response, Terms, Event, Note, FunctionWord}
+use Rattle.sbp_world.proofs.Words.Target.{abort_step, Table, Effect, ManagerStep}
+use Rattle.sbp_world.proofs.Words.Initiator.{FailCause, Answer}
+use Rattle.sbp_world.proofs.Words.Laws.{access_in_bytes, Agent, Target, agent_at, effect_on, going_on, is_own_run, is_write_access, key_by, managed_by, on_unit, over, ran_on, reset_seen, sends_of, sent_as, sent_for, taken_on, target_by, wants, wants_it, event_of}
 use Rattle.mgmt_agent.specs.declared.decision.Effect.TheVariants as effects
-use Rattle.mgmt_agent.specs.declared.decision.ManagerStep.{ManagerStep}
 use Rattle.mgmt_agent.specs.Machine as manager
-use Rattle.orb_layout.specs.declared.ask.FailCause.{FailCause}
 use Rattle.orb_layout.specs.declared.ask.FailCause.TheVariants as causes
-use Rattle.orb_layout.specs.Replies.{Answer}
-use Rattle.sbp_journal.specs.Run.{Moment}
-use Rattle.sbp_journal.specs.Transactions.{Part, no_packet, part_of, request, response}
-use Rattle.sbp_journal.specs.Wire.{Terms}
-use Rattle.sbp_journal.specs.declared.event.Event.{Event}
+use Rattle.sbp_journal.specs.Transactions.{no_packet}
 use Rattle.sbp_journal.specs.declared.event.Event.TheVariants as events
-use Rattle.sbp_journal.specs.declared.note.Note.{Note}
 use Rattle.sbp_journal.specs.declared.note.Note.TheVariants as notes
-use Rattle.sbp_journal.specs.declared.operation.FunctionWord.{FunctionWord}
 use Rattle.sbp_journal.specs.declared.operation.FunctionWord.TheVariants as functions
-use Rattle.sbp_laws.specs.Packets.{access_in_bytes}
-use Rattle.sbp_laws.specs.Targets.{Agent, Target, agent_at, effect_on, going_on, is_own_run, is_write_access, key_by, managed_by, on_unit, over, ran_on, reset_seen, sends_of, sent_as, sent_for, taken_on, target_by, wants, wants_it}
-use Rattle.sbp_laws.specs.Turns.{event_of}
 use Rattle.sbp_world.proofs.Lists.AgentFolds.{AreKept, AreSo, AreStill, all_cut, cut_still, going_still, lost_still, over_still, set_still, settles, so, stand, stand_still, where_still}
 
 module _ {May : ℕ → Type 0} (P : ℕ → Agent → Type 0) (kept : AreKept P May) where

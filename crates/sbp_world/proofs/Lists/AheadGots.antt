@@ -1,58 +1,16 @@
 -- As each packet is got in a run in which no initiator injected packets, or few logins were given: while an agent of an initiator that injected none has an ORB that it read ahead, what it waits for begins not in the slot of that ORB, and so what is got of its initiator does
 -- not, where what answers no agent does not.
-use Rattle.std.proofs.Common.{◌+◌, arith, inl, inr, ◌≡◌, ◌∙◌, refl, sym, ap, subst, ◌<◌, ◌≤◌, ◌-◌, ◌==◌, nat_lt, ℕ, suc, Bool, true, false, cond, List, [], ◌∷◌, length, Option, Some, None}
-use Rattle.std.proofs.lemmas.Bool.Decides.{nat_tests}
-use Rattle.std.proofs.lemmas.Nat.{pow_pos}
-use Rattle.bus_memory.specs.Windows.{window_at}
-use Rattle.command_agent.specs.declared.phase.Phase.{Phase}
+use Rattle.sbp_world.proofs.Words.Std.{◌+◌, arith, inl, inr, ◌≡◌, ◌∙◌, refl, sym, ap, subst, ◌<◌, ◌≤◌, ◌-◌, ◌==◌, nat_lt, ℕ, suc, Bool, true, false, cond, List, [], ◌∷◌, length, Option, Some, None, nat_tests, pow_pos}
+use Rattle.sbp_world.proofs.Words.Wire.{Access, Cmd, Event, Moment, asked, said, Sending, Terms, terms, Note}
+use Rattle.sbp_world.proofs.Words.Target.{Phase, Which, Ahead, Main, Machine, chunk_of, cut_to, limit_of, Knows, KnowsAhead, Progress, main_ask, number_behind, Table, place_at, Disk}
+use Rattle.sbp_world.proofs.Words.Initiator.{window_at, CommandOrb, At, Chunk, Segment, chunk_from}
+use Rattle.sbp_world.proofs.Words.Laws.{fifo_in, Moved, laid_out, moved_by, payload_at, read_by, Orb, command_at, slot_at, named_orb, prepared_in, access_at, answered_at, receiver_in, Purpose, Target, agent_at, for_agent, for_manager, for_nobody, is_serial, term_login, over, purpose_of, target_at, ends, EachMoment, injectors}
+use Rattle.sbp_world.proofs.Words.World.{ready_logins, WorldState, Alike, IsAccessFor, serial_of, Office, more_deliveries, AheadAsGot, AheadAsGotLaw, HasAhead, IsAheadElsewhere, GoesAlong, OpenListsLaw, AllElsewhere, IsOwnOrOther, is_main_of, main_moved, main_read, IsBufferOf, IsCalm, IsOpenAt, initiator_in, is_open_at, machine_at, IsTameOrFew, AreOpened, IsOpened, IsLoginFifo, data_slot, IsAwaited, IsElsewhereBut, by_purpose}
 use Rattle.command_agent.specs.declared.phase.Phase.TheVariants as phases
 use Rattle.command_agent.specs.declared.phase.ReadAhead.TheVariants as aheads
-use Rattle.command_agent.specs.declared.step.Which.{Which}
-use Rattle.command_agent.specs.declared.step.Which.TheVariants.{Ahead, Main}
-use Rattle.command_agent.specs.Machine.{Machine, chunk_of, cut_to, limit_of}
-use Rattle.agent_laws.specs.Along.Along.{Knows, KnowsAhead, Progress}
-use Rattle.agent_laws.specs.Along.Requests.{main_ask}
-use Rattle.agent_laws.specs.Along.Steps.{number_behind}
-use Rattle.login_table.specs.Table.{Table, place_at}
-use Rattle.orb_layout.specs.declared.command.CommandOrb.{CommandOrb}
-use Rattle.orb_layout.specs.declared.pointer.OrbPointer.TheVariants.{At}
-use Rattle.page_table.specs.declared.segment.Chunk.{Chunk}
-use Rattle.page_table.specs.declared.segment.Segment.{Segment}
-use Rattle.page_table.specs.Buffer.{chunk_from}
-use Rattle.rbc_disk.specs.Disk.{Disk}
-use Rattle.sbp_journal.specs.Addresses.{Access}
-use Rattle.sbp_journal.specs.declared.event.Cmd.{Cmd}
-use Rattle.sbp_journal.specs.declared.event.Event.{Event}
-use Rattle.sbp_journal.specs.Run.{Moment, asked, said}
-use Rattle.sbp_journal.specs.Transactions.{Sending}
-use Rattle.sbp_journal.specs.Wire.{Terms, terms}
-use Rattle.sbp_laws.specs.Agents.{fifo_in}
-use Rattle.sbp_laws.specs.CarriedBytes.{Moved, laid_out, moved_by, payload_at, read_by}
-use Rattle.sbp_laws.specs.Lists.{Orb, command_at, slot_at, orb as named_orb, prepared_in}
-use Rattle.sbp_laws.specs.Packets.{access_at, answered_at, receiver_in}
-use Rattle.sbp_laws.specs.Targets.{Purpose, Target, agent_at, for_agent, for_manager, for_nobody, is_serial, login_at as term_login, over, purpose_of, target_at}
-use Rattle.sbp_laws.specs.Terms.{ends}
-use Rattle.sbp_laws.specs.Turns.{EachMoment}
-use Rattle.sbp_world.specs.Making.{ready_logins}
-use Rattle.sbp_world.specs.Worlds.{WorldState}
-use Rattle.sbp_world.specs.Agents.Alike.{Alike}
-use Rattle.sbp_world.specs.Agents.AskedRuns.{IsAccessFor, serial_of}
-use Rattle.sbp_world.specs.Agents.Management.Offices.{Office}
 use Rattle.sbp_world.proofs.Agents.Management.Holding.{Holding}
 use Rattle.sbp_world.proofs.Agents.Management.Offices.{over_keeps}
 use Rattle.sbp_world.proofs.Agents.Management.Still.{hist}
-use Rattle.sbp_world.specs.Hosts.Runs.{more_deliveries}
-use Rattle.sbp_world.specs.Lists.AheadGots.{AheadAsGot, AheadAsGotLaw, HasAhead, IsAheadElsewhere}
-use Rattle.sbp_world.specs.Lists.Along.{GoesAlong}
-use Rattle.sbp_world.specs.Lists.Closes.{OpenListsLaw}
-use Rattle.sbp_world.specs.Lists.FedRuns.{AllElsewhere, IsOwnOrOther, is_main_of, main_moved, main_read}
-use Rattle.sbp_world.specs.Lists.Lists.{IsBufferOf}
-use Rattle.sbp_world.specs.Lists.Needs.{IsCalm, IsOpenAt, initiator_in, is_open_at, machine_at}
-use Rattle.sbp_world.specs.Lists.FewLogins.{IsTameOrFew}
-use Rattle.sbp_world.specs.Lists.Opens.{AreOpened, IsOpened}
-use Rattle.sbp_world.specs.Lists.OwnLogins.{IsLoginFifo}
-use Rattle.sbp_world.specs.Lists.OwnReads.{data_slot}
-use Rattle.sbp_world.specs.Lists.OwnSince.{IsAwaited, IsElsewhereBut, by_purpose}
 use Rattle.sbp_world.proofs.Lists.Brought.{has_a_table, list}
 use Rattle.sbp_world.proofs.Lists.Courses.{EveryPlace, Keeps, at_between, at_lines, more_than_one}
 use Rattle.sbp_world.proofs.Lists.DataSteps.{chunk_window}
@@ -65,8 +23,6 @@ use Rattle.sbp_world.proofs.Lists.LiveGiven.{ShortLaw}
 use Rattle.sbp_world.proofs.Lists.LiveShort.{placed_beside}
 use Rattle.sbp_world.proofs.Lists.StatusPlaces.{AllPlacedFor}
 use Rattle.sbp_world.proofs.Lists.Calm.{calm_before}
-use Rattle.sbp_laws.specs.Lawful.{injectors}
-use Rattle.sbp_journal.specs.declared.note.Note.{Note}
 use Rattle.sbp_journal.specs.declared.note.Note.TheVariants as notes
 use Rattle.sbp_world.proofs.Lists.LiveRuns.{goes_tame_or_few}
 use Rattle.sbp_world.proofs.Lists.ManageSends.{opened_terms}

@@ -1,16 +1,13 @@
 -- While an agent had an ORB read ahead, what was got of its initiator begins elsewhere than in the slot of the ORB, by every history.
-use Rattle.std.proofs.Common.{◌≡◌, ◌<◌, ℕ, Bool, false, List, [], ◌∷◌, ◌++◌}
+use Rattle.sbp_world.proofs.Words.Std.{◌≡◌, ◌<◌, ℕ, Bool, false, List, [], ◌∷◌, ◌++◌}
+use Rattle.sbp_world.proofs.Words.Wire.{Moment, asked, said, Note}
+use Rattle.sbp_world.proofs.Words.Target.{Disk}
+use Rattle.sbp_world.proofs.Words.Initiator.{start_of}
+use Rattle.sbp_world.proofs.Words.Laws.{EachMoment}
+use Rattle.sbp_world.proofs.Words.World.{AheadAsGot, AreKeptAhead, HasAhead, AllAhead, HasOrbAhead, AllElsewhereBut}
 use Rattle.bus_memory.specs.declared.window.Window.TheVariants as windows
-use Rattle.bus_memory.specs.Windows.{start as start_of}
-use Rattle.rbc_disk.specs.Disk.{Disk}
-use Rattle.sbp_journal.specs.Run.{Moment, asked, said}
-use Rattle.sbp_journal.specs.declared.note.Note.{Note}
 use Rattle.sbp_journal.specs.declared.note.Note.TheVariants as notes
-use Rattle.sbp_laws.specs.Turns.{EachMoment}
-use Rattle.sbp_world.specs.Lists.AheadGots.{AheadAsGot, AreKeptAhead, HasAhead}
-use Rattle.sbp_world.specs.Lists.AheadOrbs.{AllAhead, HasOrbAhead}
 use Rattle.sbp_world.specs.Lists.FedRuns.{AreOthers}
-use Rattle.sbp_world.specs.Lists.OwnSince.{AllElsewhereBut}
 use Rattle.sbp_world.proofs.Lists.AheadSince.{ahead_since_law}
 
 module _ (start : List Disk) (i place slot : ℕ) where

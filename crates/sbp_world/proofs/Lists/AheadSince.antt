@@ -1,11 +1,10 @@
 -- By every history, while an agent has an ORB that it read ahead, what is got of its initiator begins elsewhere than in the slot of that ORB.
-use Rattle.std.proofs.Common.{◌≡◌, ◌<◌, ℕ, Bool, false, List, [], ◌∷◌, ◌++◌}
-use Rattle.rbc_disk.specs.Disk.{Disk}
-use Rattle.sbp_journal.specs.Run.{Moment, asked, said}
-use Rattle.sbp_journal.specs.declared.note.Note.{Note}
+use Rattle.sbp_world.proofs.Words.Std.{◌≡◌, ◌<◌, ℕ, Bool, false, List, [], ◌∷◌, ◌++◌}
+use Rattle.sbp_world.proofs.Words.Wire.{Moment, asked, said, Note}
+use Rattle.sbp_world.proofs.Words.Target.{Disk}
+use Rattle.sbp_world.proofs.Words.Laws.{EachMoment}
+use Rattle.sbp_world.proofs.Words.World.{AheadAsGot, AheadSinceLaw, AreKeptAhead}
 use Rattle.sbp_journal.specs.declared.note.Note.TheVariants as notes
-use Rattle.sbp_laws.specs.Turns.{EachMoment}
-use Rattle.sbp_world.specs.Lists.AheadGots.{AheadAsGot, AheadSinceLaw, AreKeptAhead}
 use Rattle.sbp_world.specs.Lists.FedRuns.{AreOthers}
 
 module _ (wild : ℕ → Bool) (start : List Disk) (i place slot : ℕ) (own : wild i ≡ false) (small : place < 8) where

@@ -1,35 +1,14 @@
 -- As each packet is got in a run in which no initiator injected packets, an agent that has an ORB which it read ahead waits for an answer of the initiator of its place.
-use Rattle.std.proofs.Common.{inl, ◌≡◌, ◌∙◌, refl, sym, ap, subst, ◌<◌, ℕ, is_some, Bool, true, false, List, ◌∷◌, Option, Some, None}
-use Rattle.command_agent.specs.declared.step.Which.TheVariants.{Main}
-use Rattle.command_agent.specs.Machine.{Machine, is_sent}
-use Rattle.agent_laws.specs.Along.Along.{KnowsAhead}
-use Rattle.rbc_disk.specs.Disk.{Disk}
-use Rattle.sbp_journal.specs.Run.{Moment, asked}
-use Rattle.sbp_journal.specs.Transactions.{Sending}
-use Rattle.sbp_journal.specs.Wire.{terms}
-use Rattle.sbp_journal.specs.declared.event.Event.{Event}
-use Rattle.sbp_laws.specs.Packets.{receiver_in}
-use Rattle.sbp_laws.specs.Targets.{Agent, Target, agent_at, over, target_at}
-use Rattle.sbp_laws.specs.Turns.{EachMoment}
-use Rattle.sbp_target.specs.Nodes.{desk_at}
+use Rattle.sbp_world.proofs.Words.Std.{inl, ◌≡◌, ◌∙◌, refl, sym, ap, subst, ◌<◌, ℕ, is_some, Bool, true, false, List, ◌∷◌, Option, Some, None}
+use Rattle.sbp_world.proofs.Words.Wire.{Moment, asked, Sending, terms, Event}
+use Rattle.sbp_world.proofs.Words.Target.{Main, Machine, is_sent, KnowsAhead, Disk, desk_at}
+use Rattle.sbp_world.proofs.Words.Laws.{receiver_in, Agent, Target, agent_at, over, target_at, EachMoment}
+use Rattle.sbp_world.proofs.Words.World.{ready_logins, WorldState, has_list, serial_of, IsOf, more_deliveries, AreWaitingAhead, HasAhead, WaitsAsGot, WaitsAsGotLaw, GoesAlong, OpenListsLaw, IsOpenAt, initiator_in, machine_at, IsBrought, IsTame, IsAwaited}
 use Rattle.sbp_target.proofs.Histories.Calling.{not_eight}
 use Rattle.sbp_target.proofs.Histories.Following.{Fits}
-use Rattle.sbp_world.specs.Making.{ready_logins}
-use Rattle.sbp_world.specs.Worlds.{WorldState}
-use Rattle.sbp_world.specs.Agents.Alike.{has_list}
-use Rattle.sbp_world.specs.Agents.AskedRuns.{serial_of}
-use Rattle.sbp_world.specs.Agents.Crews.{IsOf}
 use Rattle.sbp_world.proofs.Agents.Management.Holding.{Holding}
 use Rattle.sbp_world.proofs.Agents.Management.Still.{hist}
 use Rattle.sbp_world.proofs.Agents.Purposes.{g}
-use Rattle.sbp_world.specs.Hosts.Runs.{more_deliveries}
-use Rattle.sbp_world.specs.Lists.AheadGots.{AreWaitingAhead, HasAhead, WaitsAsGot, WaitsAsGotLaw}
-use Rattle.sbp_world.specs.Lists.Along.{GoesAlong}
-use Rattle.sbp_world.specs.Lists.Closes.{OpenListsLaw}
-use Rattle.sbp_world.specs.Lists.Needs.{IsOpenAt, initiator_in, machine_at}
-use Rattle.sbp_world.specs.Lists.OrbReads.{IsBrought}
-use Rattle.sbp_world.specs.Lists.OwnLogins.{IsTame}
-use Rattle.sbp_world.specs.Lists.OwnSince.{IsAwaited}
 use Rattle.sbp_world.proofs.Lists.AheadGots.{ahead_before}
 use Rattle.sbp_world.proofs.Lists.Brought.{list}
 use Rattle.sbp_world.proofs.Lists.Courses.{EveryPlace, Keeps, at_between, at_lines, more_than_one}

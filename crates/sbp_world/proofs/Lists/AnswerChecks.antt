@@ -1,20 +1,10 @@
 -- A command that runs with no check, and whose buffer does not go to the initiator, has no answer.
-use Rattle.std.proofs.Common.{arith, ◌≡◌, ◌∙◌, refl, sym, ap, subst, ◌&&◌, ◌||◌, ◌==◌, not, ℕ, nat_lt, Bool, true, false, Option, Some, None, Result, Ok, Err, List, [], IfSome, ◌*◌}
-use Rattle.std.specs.Prelude.{is_none, min, option_map, take}
-use Rattle.std.proofs.lemmas.Bool.Decides.{nat_tests}
-use Rattle.std.proofs.lemmas.Option.{same_Some}
-use Rattle.rbc_command.specs.declared.sense.Sense.{Sense}
-use Rattle.rbc_command.specs.Commands.{operation_in}
-use Rattle.rbc_command.specs.SenseData.{bad_field, is_protected, no_command, no_medium, not_started, outside, removal_prevented}
-use Rattle.rbc_disk.specs.Checks.{check_if, check_of, field_check, first_of, mark_check, request_check, told_marks, tray_check}
-use Rattle.rbc_disk.specs.declared.command.BufferPlan.{BufferPlan}
-use Rattle.rbc_disk.specs.declared.request.Request.{Request}
-use Rattle.rbc_disk.specs.Requests.{answer_length, data_length, is_eject, is_inquiry, is_outside, is_unfit, is_write, needs_medium, request_of}
+use Rattle.sbp_world.proofs.Words.Std.{arith, ◌≡◌, ◌∙◌, refl, sym, ap, subst, ◌&&◌, ◌||◌, ◌==◌, not, ℕ, nat_lt, Bool, true, false, Option, Some, None, Result, Ok, Err, List, [], IfSome, ◌*◌, is_none, option_map, nat_tests, same_Some}
+use Rattle.sbp_world.proofs.Words.Target.{Sense, operation_in, bad_field, is_protected, no_command, no_medium, not_started, outside, removal_prevented, check_if, check_of, field_check, first_of, mark_check, request_check, told_marks, tray_check, BufferPlan, Request, answer_length, data_length, is_eject, is_inquiry, is_outside, is_unfit, is_write, needs_medium, request_of, Disk, blocks_at, MayEnd, answer_by, answer_length_by, answer_length_of, answer_of, inquiry_bytes, PlainDisk, has_place}
+use Rattle.std.specs.Prelude.{min, take}
 use Rattle.rbc_command.specs.declared.command.Command.TheVariants as commands
 use Rattle.rbc_disk.specs.declared.request.Request.TheVariants as requests
-use Rattle.rbc_disk.specs.Disk.{Disk, blocks_at}
-use Rattle.rbc_disk.specs.Runs.{MayEnd, answer_by, answer_in, answer_length_by, answer_length_of, answer_of, inquiry_bytes}
-use Rattle.rbc_disk.specs.Units.{PlainDisk, has_place}
+use Rattle.rbc_disk.specs.Runs.{answer_in}
 
 no_check : {A : Type 0} (check : Sense) → Some check ≡ None → A
 no_check check e = absurd (differ e)

@@ -1,45 +1,24 @@
 -- How runs come in a turn of a world: none is told; or the agent of a place ran its command as the packet that is delivered in this turn was got, and this is the one run that is told.
-use Rattle.sbp_world.specs.Telling.{holder}
-use Rattle.rbc_disk.specs.Disk.{Disk}
+use Rattle.sbp_world.proofs.Words.Std.{◌≡◌, ◌∙◌, refl, sym, ap, subst, ◌<◌, ℕ, Bool, true, false, List, [], ◌∷◌, length, Option, Some, None, map, ◌++◌, ◌⊎◌, inl, inr}
+use Rattle.sbp_world.proofs.Words.Wire.{Sent, found_sent, end_note, judged_note, no_packet, Event, Moment, asked, check_of, said, Note, Judged}
+use Rattle.sbp_world.proofs.Words.Target.{Disk, Told, Held, plain_in, Outcome}
+use Rattle.sbp_world.proofs.Words.Laws.{known_at, plain_of, target_at, unit_at}
+use Rattle.sbp_world.proofs.Words.World.{holder, delivered, MayTell, MayHappen, acted, happens, keyed, reset_line, see_line, tick_line, MayIf, delivered_if, inject_line, is_in_flight, lose_line, may_repeat, timeout_line, MayNext, delivered_at, delivered_next, lowest, after_all, IsLine, Scene, WorldState, begun, without_notes}
 use Rattle.sbp_world.proofs.Agents.UnitsLines.{opened as units_opened}
 use Rattle.sbp_journal.specs.declared.event.Event.TheVariants as events
 use Rattle.sbp_journal.specs.declared.note.Note.TheVariants as notes
 use Rattle.sbp_world.specs.Settling as settling
-use Rattle.std.proofs.Common.{◌≡◌, ◌∙◌, refl, sym, ap, subst, ◌<◌, ℕ, Bool, true, false, List, [], ◌∷◌, length, Option, Some, None}
-use Rattle.packet_store.specs.declared.sent.Sent.{Sent}
-use Rattle.packet_store.specs.Kept.{found_sent}
-use Rattle.rbc_disk.specs.Runs.{Told}
-use Rattle.sbp_bus.specs.Packets.{end_note, judged_note, no_packet}
-use Rattle.sbp_journal.specs.declared.event.Event.{Event}
-use Rattle.sbp_journal.specs.Run.{Moment, asked}
-use Rattle.sbp_world.specs.Delivering.{delivered, MayTell}
-use Rattle.sbp_world.specs.Lines.{MayHappen, acted, happens, keyed}
-use Rattle.sbp_world.specs.Nodes.{reset_line, see_line, tick_line}
-use Rattle.sbp_world.specs.Packets.{MayIf, delivered_if, inject_line, is_in_flight, lose_line, may_repeat, timeout_line}
-use Rattle.sbp_world.specs.Settling.{MayNext, delivered_at, delivered_next, lowest, after_all}
-use Rattle.sbp_world.specs.Wire.Lines.{IsLine}
-use Rattle.sbp_world.specs.Worlds.{Scene, WorldState, begun, without_notes}
 use Rattle.sbp_world.proofs.Agents.Management.Still.{hist}
 use Rattle.sbp_world.proofs.Lists.Turned.{IsOne}
 use Rattle.sbp_world.proofs.Lists.Walks.{Turn, by_delivery, by_end, by_line, by_start}
-use Rattle.rbc_disk.specs.Held.{Held}
-use Rattle.sbp_target.specs.Replies.{plain_in}
 use Rattle.sbp_world.proofs.Lists.MachineTurns.{heard_in, line_heard}
 use Rattle.sbp_world.proofs.Lists.Runless.{Delivers, IsRunBy, IsRunlessBy, Plainly, acts, delivery_comes, target_told, ToldHere, told_none, told_run, injects, keys, late, loses, none_judged, no_run, one_run, plain_one, resets, sights, ticks}
 use Rattle.sbp_world.proofs.Lists.RunTells.{NoneRan, RanBy}
 use Rattle.sbp_world.proofs.Lists.AnswerRuns.{AreUnrun, both_unrun, plain_unrun}
 use Rattle.sbp_world.proofs.Agents.UnitsTold.{got_same}
 use Rattle.sbp_world.proofs.Agents.UnitsLines.{Units}
-use Rattle.sbp_laws.specs.Targets.{known_at, plain_of, target_at}
-use Rattle.sbp_laws.specs.DiskFold.{unit_at}
 use Rattle.sbp_target.proofs.Histories.Calling.{Good}
-use Rattle.rbc_disk.specs.declared.command.Outcome.{Outcome}
-use Rattle.sbp_bus.specs.Words.{check_of}
-use Rattle.sbp_journal.specs.Run.{said}
-use Rattle.sbp_journal.specs.declared.note.Note.{Note}
-use Rattle.sbp_journal.specs.declared.cause.Judged.{Judged}
 use Rattle.sbp_journal.specs.declared.cause.Judged.TheVariants as judgements
-use Rattle.std.proofs.Common.{map, ◌++◌, ◌⊎◌, inl, inr}
 use Rattle.sbp_world.proofs.Common.{said_split, moments_joined as joined}
 
 -- an agent ran its command as this packet was got

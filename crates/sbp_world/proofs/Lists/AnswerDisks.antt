@@ -1,15 +1,10 @@
 -- The medium before the run of an ORB, by the history: as an ORB runs once, it is that of the moment at which it ran.
-use Rattle.std.proofs.Common.{arith, ◌≡◌, ◌∙◌, refl, sym, ap, subst, ◌<◌, ℕ, suc, nat_eq, Bool, true, false, cond, List, [], ◌∷◌, ◌++◌, Option, Some, None, IsSomeAnd}
-use Rattle.std.proofs.lemmas.Bool.Decides.{nat_tests}
-use Rattle.rbc_command.specs.declared.sense.Sense.{Sense}
-use Rattle.rbc_disk.specs.Disk.{Disk}
-use Rattle.sbp_journal.specs.Run.{Moment, said}
+use Rattle.sbp_world.proofs.Words.Std.{arith, ◌≡◌, ◌∙◌, refl, sym, ap, subst, ◌<◌, ℕ, suc, nat_eq, Bool, true, false, cond, List, [], ◌∷◌, ◌++◌, Option, Some, None, IsSomeAnd, nat_tests}
+use Rattle.sbp_world.proofs.Words.Wire.{Moment, said}
+use Rattle.sbp_world.proofs.Words.Target.{Sense, Disk}
+use Rattle.sbp_world.proofs.Words.Laws.{before_run, ExecutionAt, ExecutionLaw, disk_of, Request, request_at, runs}
+use Rattle.sbp_world.proofs.Words.World.{IsAnswerBefore, IsAnswerOf}
 use Rattle.sbp_journal.specs.declared.note.Note.TheVariants as notes
-use Rattle.sbp_laws.specs.AnswerLaw.{before_run}
-use Rattle.sbp_laws.specs.ExecutionLaw.{ExecutionAt, ExecutionLaw}
-use Rattle.sbp_laws.specs.Targets.{disk_of}
-use Rattle.sbp_laws.specs.Terms.{Request, request_at, runs}
-use Rattle.sbp_world.specs.Lists.AnswersTold.{IsAnswerBefore, IsAnswerOf}
 use Rattle.sbp_world.proofs.Lists.DataTurns.{ran_on}
 use Rattle.sbp_world.proofs.Common.{itself}
 

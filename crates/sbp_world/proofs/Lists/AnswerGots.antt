@@ -1,30 +1,16 @@
 -- Each response that is got answers the request that its label waits for, of nodes that injected no packets.
-use Rattle.std.proofs.Common.{◌≡◌, ◌∙◌, refl, sym, ap, subst, ◌<◌, ℕ, Bool, true, false, cond, List, [], ◌∷◌, Option, Some, None, Result, Ok, Err}
+use Rattle.sbp_world.proofs.Words.Std.{◌≡◌, ◌∙◌, refl, sym, ap, subst, ◌<◌, ℕ, Bool, true, false, cond, List, [], ◌∷◌, Option, Some, None, Result, Ok, Err}
+use Rattle.sbp_world.proofs.Words.Wire.{May, MayAll, is_plain, Move, after, answer, answered, answering, ask, asking, deliver, disown, expire, expiring, inject, lose, moved, reset, see, start, tell, Due, Node, Wire, as_sending, decided, first_note, id_for, Asked, Stale, Finding, answering_step, asking_step, expiring_step, judging_step, of_again, of_generation, of_grammar, of_label, of_request, of_response, Kept, found, Moment, said, Kind, Part, Sending, Transaction, asked_as, asked_by, between, is_same_kind, part_of, request, response, Held, Terms, free, rests, terms, waits, Cause, Note}
+use Rattle.sbp_world.proofs.Words.Laws.{answered_as, closed_by, EachMoment}
+use Rattle.sbp_world.proofs.Words.World.{WorldState, Stands, AnswersAt}
 use Rattle.sbp_world.proofs.Agents.Management.Still.{hist}
-use Rattle.bus_transactions.specs.May.{May, MayAll, is_plain}
-use Rattle.bus_transactions.specs.Moves.{Move, after, answer, answered, answering, ask, asking, deliver, disown, expire, expiring, inject, lose, moved, reset, see, start, tell}
-use Rattle.bus_transactions.specs.Wire.{Due, Node, Wire, as_sending, decided, first_note, id_for}
 use Rattle.bus_transactions.proofs.All.{all_stand}
 use Rattle.bus_transactions.proofs.AnswerLaws.{answers_always}
 use Rattle.bus_transactions.proofs.Facts.{begun_asked, some_same}
 use Rattle.bus_transactions.proofs.Follows.{found_kept}
 use Rattle.bus_transactions.proofs.Stands.{Stands as WireStands}
-use Rattle.label_table.specs.declared.judgement.Asked.{Asked}
-use Rattle.label_table.specs.declared.reply.Stale.{Stale}
-use Rattle.label_table.specs.Layer.{Finding, answering_step, asking_step, expiring_step, judging_step, of_again, of_generation, of_grammar, of_label, of_request, of_response}
-use Rattle.packet_store.specs.declared.sent.Kept.{Kept}
-use Rattle.packet_store.specs.Kept.{found}
-use Rattle.sbp_journal.specs.Run.{Moment, said}
-use Rattle.sbp_journal.specs.Transactions.{Kind, Part, Sending, Transaction, asked_as, asked_by, between, is_same_kind, no_packet, part_of, request, response}
-use Rattle.sbp_journal.specs.Wire.{Held, Terms, free, rests, terms, waits}
-use Rattle.sbp_journal.specs.declared.cause.Cause.{Cause}
-use Rattle.sbp_journal.specs.declared.note.Note.{Note}
+use Rattle.sbp_journal.specs.Transactions.{no_packet}
 use Rattle.sbp_journal.specs.declared.note.Note.TheVariants as notes
-use Rattle.sbp_laws.specs.Packets.{answered_as, closed_by}
-use Rattle.sbp_laws.specs.Turns.{EachMoment}
-use Rattle.sbp_world.specs.Worlds.{WorldState}
-use Rattle.sbp_world.specs.Wire.Wires.{Stands}
-use Rattle.sbp_world.specs.Lists.OrbReads.{AnswersAt}
 use Rattle.sbp_world.proofs.Lists.ManageTerms.{same_some}
 use Rattle.sbp_world.proofs.Common.{none_is}
 

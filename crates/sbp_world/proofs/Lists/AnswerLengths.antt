@@ -1,52 +1,19 @@
 -- The answer of a good status has as many bytes as the answer to its command: it is the bytes of the buffer, which the command of its line fills; and the ORB ran.
-use Rattle.std.proofs.Common.{◌≡◌, ◌∙◌, refl, sym, ap, subst, ◌<◌, IfSome, IsSomeAnd, ℕ, suc, nat_eq, Bool, true, false, cond, List, [], ◌∷◌, ◌++◌, map, length, append_assoc, Option, Some, None}
+use Rattle.sbp_world.proofs.Words.Std.{◌≡◌, ◌∙◌, refl, sym, ap, subst, ◌<◌, IfSome, IsSomeAnd, ℕ, suc, nat_eq, Bool, true, false, cond, List, [], ◌∷◌, ◌++◌, map, length, append_assoc, Option, Some, None, nat_tests, length-map, arith, same_Some}
+use Rattle.sbp_world.proofs.Words.Wire.{buffer_of, in_buffer, out_buffer, Moment, asked, said, terms, Cmd, Event, Note, NoteBuffer}
+use Rattle.sbp_world.proofs.Words.Target.{Disk, Sense, check_of, MayEnd, answer_length_of, answer_of, failure_of}
+use Rattle.sbp_world.proofs.Words.Initiator.{StatusKind, buffer_addresses}
+use Rattle.sbp_world.proofs.Words.Laws.{before_run, laid_out, ExecutionAt, MayEndWith, RunsOn, OrderAt, id_for, disk_of, place_on, plain_of, target_at, injectors, cmd_of, command_at, slot_at, TakenAt, Request, appends, ended_status, plan_of, ran_status, request_at, runs, status_of, EachMoment, event_of, LawfulOnLists}
+use Rattle.sbp_world.proofs.Words.World.{IsCalm, history_of, moments_behind, Entry, Run, AreLines, FillsAction, FillsBuffer, IsLine, byte_held, IsRun, request_of, AnswerLengthsLaw, HasLength, LengthOf, ListsLaw}
 use Rattle.std.specs.Prelude.{take}
-use Rattle.std.proofs.lemmas.Bool.Decides.{nat_tests}
-use Rattle.std.proofs.lemmas.List.{length-map}
-use Rattle.std.proofs.Common.{arith}
-use Rattle.std.proofs.lemmas.Option.{same_Some}
-use Rattle.orb_layout.specs.declared.status.StatusKind.{StatusKind}
 use Rattle.orb_layout.specs.declared.status.StatusKind.TheVariants as kinds
-use Rattle.page_table.specs.Buffer.{buffer_addresses}
-use Rattle.rbc_disk.specs.Disk.{Disk}
-use Rattle.rbc_command.specs.declared.sense.Sense.{Sense}
-use Rattle.rbc_disk.specs.Checks.{check_of}
-use Rattle.rbc_disk.specs.Runs.{MayEnd, answer_length_of, answer_of, failure_of}
-use Rattle.sbp_journal.specs.Buffers.{buffer_of, in_buffer, out_buffer}
-use Rattle.sbp_journal.specs.Run.{Moment, asked, said}
-use Rattle.sbp_journal.specs.Wire.{terms}
 use Rattle.sbp_journal.specs.declared.event.Action.TheVariants as actions
-use Rattle.sbp_journal.specs.declared.event.Cmd.{Cmd}
-use Rattle.sbp_journal.specs.declared.event.Event.{Event}
 use Rattle.sbp_journal.specs.declared.event.Event.TheVariants as events
-use Rattle.sbp_journal.specs.declared.note.Note.{Note}
 use Rattle.sbp_journal.specs.declared.note.Note.TheVariants as notes
-use Rattle.sbp_journal.specs.declared.note.NoteBuffer.{NoteBuffer}
-use Rattle.sbp_laws.specs.AnswerLaw.{before_run}
-use Rattle.sbp_laws.specs.CarriedBytes.{laid_out}
-use Rattle.sbp_laws.specs.ExecutionLaw.{ExecutionAt, MayEndWith, RunsOn}
-use Rattle.sbp_laws.specs.OrderLaw.{OrderAt}
-use Rattle.sbp_laws.specs.Packets.{id_for}
-use Rattle.sbp_laws.specs.Targets.{disk_of, place_on, plain_of, target_at}
-use Rattle.sbp_laws.specs.Lawful.{injectors}
-use Rattle.sbp_laws.specs.Lists.{cmd_of, command_at, slot_at}
-use Rattle.sbp_laws.specs.StatusLaw.{TakenAt}
-use Rattle.sbp_laws.specs.Terms.{Request, appends, ended_status, plan_of, ran_status, request_at, runs, status_of}
-use Rattle.sbp_laws.specs.Turns.{EachMoment, event_of}
-use Rattle.sbp_world.specs.Lists.Needs.{IsCalm}
-use Rattle.sbp_world.specs.Histories.{history_of, moments_behind}
-use Rattle.sbp_world.specs.Runs.{Entry, Run}
-use Rattle.sbp_world.specs.Wire.Lines.{AreLines, FillsAction, FillsBuffer, IsLine}
 use Rattle.sbp_world.specs.Hosts.Answers.{IsAnswerOf}
-use Rattle.sbp_world.specs.Hosts.Bytes.{byte_held}
-use Rattle.sbp_world.specs.Hosts.Runs.{IsRun}
 use Rattle.sbp_world.proofs.Hosts.AnswerRuns.{taken_law}
 use Rattle.sbp_world.proofs.Hosts.BytePlaces.{buffer_length}
 use Rattle.sbp_world.proofs.Hosts.OrbTables.{whole_bytes}
-use Rattle.sbp_world.specs.Hosts.Orbs.{request_of}
-use Rattle.sbp_world.specs.Lists.AnswerLengths.{AnswerLengthsLaw, HasLength, LengthOf}
-use Rattle.sbp_laws.specs.OnLists.{LawfulOnLists}
-use Rattle.sbp_world.specs.Lists.LawfulLists.{ListsLaw}
 use Rattle.sbp_world.proofs.Lists.AnswerChecks.{check_length, ended_none, told_none}
 use Rattle.sbp_world.proofs.Lists.LinedAppends.{AllLined, LinedAt, lined_appends}
 use Rattle.sbp_world.proofs.Common.{none_is}

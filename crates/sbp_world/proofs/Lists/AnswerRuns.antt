@@ -1,30 +1,15 @@
 -- Runs in a history that goes on: notes of no run add none; and an ORB of the latest list that ran before, and is the first one that has not ended now, was so before.
-use Rattle.sbp_world.specs.Lists.AnswersTold.{IsAnswerOf}
-use Rattle.rbc_disk.specs.Disk.{Disk}
-use Rattle.std.proofs.Common.{◌==◌}
-use Rattle.std.proofs.Common.{◌+◌}
-use Rattle.std.proofs.Common.{◌⊎◌, inl, inr, length, Option, Some, None}
-use Rattle.command_agent.specs.declared.phase.Phase.{Phase}
+use Rattle.sbp_world.proofs.Words.Std.{◌==◌, ◌+◌, ◌⊎◌, inl, inr, length, Option, Some, None, arith, ◌≡◌, ◌∙◌, refl, sym, ap, subst, ◌<◌, ◌≤◌, ℕ, suc, nat_eq, nat_lt, Bool, true, false, cond, List, [], ◌∷◌, ◌++◌, map, nat_tests, false≢true}
+use Rattle.sbp_world.proofs.Words.Wire.{Moment, said, Note}
+use Rattle.sbp_world.proofs.Words.Target.{Disk, Phase, Which, Ahead, Main, Machine, is_ahead, advanced, ahead_step, answer_chunk, chunk_written, end_step, quiet, reply_step, sent, served, told_or, Told, PlainDisk, Sense}
+use Rattle.sbp_world.proofs.Words.Initiator.{FailCause, Answer, payload_of, write_failure}
+use Rattle.sbp_world.proofs.Words.Laws.{ends, lists, runs}
+use Rattle.sbp_world.proofs.Words.World.{IsAnswerOf, answers}
 use Rattle.command_agent.specs.declared.phase.Phase.TheVariants as phases
-use Rattle.command_agent.specs.declared.step.Which.{Which}
-use Rattle.command_agent.specs.declared.step.Which.TheVariants.{Ahead, Main}
-use Rattle.command_agent.specs.Machine.{Machine, is_ahead}
-use Rattle.command_agent.specs.Steps.{advanced, ahead_step, answer_chunk, answer_step, chunk_written, end_step, quiet, reply_step, sent, served, told_or}
-use Rattle.orb_layout.specs.declared.ask.FailCause.{FailCause}
+use Rattle.command_agent.specs.Steps.{answer_step}
 use Rattle.orb_layout.specs.declared.status.StatusKind.TheVariants as kinds
-use Rattle.orb_layout.specs.Replies.{Answer, payload_of, write_failure}
-use Rattle.rbc_disk.specs.Runs.{Told}
-use Rattle.rbc_disk.specs.Units.{PlainDisk}
-use Rattle.rbc_command.specs.declared.sense.Sense.{Sense}
-use Rattle.sbp_world.specs.Agents.Alike.{answers}
 use Rattle.sbp_world.proofs.Agents.UnitsRun.{ahead_none}
-use Rattle.std.proofs.Common.{arith, ◌≡◌, ◌∙◌, refl, sym, ap, subst, ◌<◌, ◌≤◌, ℕ, suc, nat_eq, nat_lt, Bool, true, false, cond, List, [], ◌∷◌, ◌++◌, map, Some}
-use Rattle.std.proofs.lemmas.Bool.Decides.{nat_tests}
-use Rattle.std.proofs.lemmas.Bool.{false≢true}
-use Rattle.sbp_journal.specs.Run.{Moment, said}
-use Rattle.sbp_journal.specs.declared.note.Note.{Note}
 use Rattle.sbp_journal.specs.declared.note.Note.TheVariants as notes
-use Rattle.sbp_laws.specs.Terms.{ends, lists, runs}
 use Rattle.sbp_world.proofs.Lists.Passing.{PassLaw}
 use Rattle.sbp_world.proofs.Lists.Running.{later_unrun}
 use Rattle.sbp_world.proofs.Lists.Runless.{AllPlain}

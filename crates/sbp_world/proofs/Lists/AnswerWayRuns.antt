@@ -1,32 +1,18 @@
 -- In every run, where lists were open as they should be before, an agent that writes an answer of an initiator that injected no packets has a present ORB whose data go to its initiator.
-use Rattle.std.proofs.Common.{◌≡◌, ◌∙◌, refl, sym, ap, subst, ◌<◌, ℕ, zero, suc, Bool, true, false, List, [], Some}
-use Rattle.std.specs.Prelude.{slice_index_or, replicate}
-use Rattle.std.proofs.lemmas.Bool.{false≢true}
-use Rattle.rbc_disk.specs.Disk.{Disk}
-use Rattle.sbp_journal.specs.Run.{Moment}
-use Rattle.sbp_world.specs.Histories.{moments_behind}
-use Rattle.sbp_world.specs.Runs.{Run, beginning}
-use Rattle.sbp_world.specs.Worlds.{WorldState}
+use Rattle.sbp_world.proofs.Words.Std.{◌≡◌, ◌∙◌, refl, sym, ap, subst, ◌<◌, ℕ, zero, suc, Bool, true, false, List, [], Some, slice_index_or, false≢true}
+use Rattle.sbp_world.proofs.Words.Wire.{Moment, Cmd}
+use Rattle.sbp_world.proofs.Words.Target.{Disk, Desk, new_desk, Machine}
+use Rattle.sbp_world.proofs.Words.Laws.{slot_at, command_at}
+use Rattle.sbp_world.proofs.Words.World.{moments_behind, Run, beginning, WorldState, IsFor, initiator_in, machine_at, new_world, answers, has_list, more_deliveries, Under, AreInward}
+use Rattle.std.specs.Prelude.{replicate}
 use Rattle.sbp_world.proofs.Agents.Management.Still.{hist}
-use Rattle.sbp_world.specs.Lists.Needs.{IsFor, initiator_in, machine_at}
 use Rattle.sbp_world.proofs.Lists.Walks.{Walks, walked_after, walked_between}
-use Rattle.sbp_laws.specs.Lists.{slot_at}
-use Rattle.sbp_target.specs.declared.desk.Desk.{Desk}
-use Rattle.sbp_target.specs.Desks.{new_desk}
-use Rattle.sbp_world.specs.Making.{new_world}
-use Rattle.sbp_world.specs.Agents.Alike.{answers, has_list}
-use Rattle.sbp_world.specs.Hosts.Runs.{more_deliveries}
-use Rattle.sbp_world.specs.Lists.Closes.{Under}
 use Rattle.sbp_world.proofs.Lists.AnswerLengths.{commands_fill}
 use Rattle.sbp_world.proofs.Lists.DataSteps.{ArePrepared, answers_is, reply_whole, reply_way}
 use Rattle.sbp_world.proofs.Lists.Executes.{asked_of}
 use Rattle.sbp_world.proofs.Lists.Full.{IsClosed, IsFull, closed_where, full_closed}
 use Rattle.sbp_world.proofs.Lists.AnswerWays.{IsWay, way_closed}
 use Rattle.sbp_world.proofs.Lists.DataWhole.{Ground, all_filled}
-use Rattle.sbp_world.specs.Lists.EndsWell.{AreInward}
-use Rattle.command_agent.specs.Machine.{Machine}
-use Rattle.sbp_journal.specs.declared.event.Cmd.{Cmd}
-use Rattle.sbp_laws.specs.Lists.{command_at}
 use Rattle.sbp_world.proofs.Lists.OpenTurns.{listing_up}
 use Rattle.sbp_world.proofs.Lists.PlaceOwners.{walk_owns}
 use Rattle.sbp_world.proofs.Lists.RunOutcomes.{AreAsked}

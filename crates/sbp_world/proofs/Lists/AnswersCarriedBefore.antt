@@ -1,24 +1,14 @@
 -- The histories before a history: what is known of it is known of them; an ORB that its slot has was prepared there; and a write of its data that was sent by then is one of theirs.
-use Rattle.rbc_disk.specs.Disk.{Disk}
-use Rattle.std.proofs.Common.{arith, ◌≡◌, ◌∙◌, refl, sym, ap, subst, ◌<◌, ◌≤◌, ◌+◌, ◌==◌, ◌&&◌, ℕ, suc, nat_eq, Bool, true, false, cond, List, [], ◌∷◌, ◌++◌, Option, Some, None}
-use Rattle.std.proofs.lemmas.Bool.Decides.{nat_tests}
-use Rattle.std.proofs.lemmas.Bool.{false≢true}
-use Rattle.bus_transactions.specs.Packets.{SerialsCount}
-use Rattle.sbp_journal.specs.Run.{Moment, said}
-use Rattle.sbp_journal.specs.Transactions.{Sending}
-use Rattle.sbp_journal.specs.Wire.{terms}
+use Rattle.sbp_world.proofs.Words.Std.{arith, ◌≡◌, ◌∙◌, refl, sym, ap, subst, ◌<◌, ◌≤◌, ◌+◌, ◌==◌, ◌&&◌, ℕ, suc, nat_eq, Bool, true, false, cond, List, [], ◌∷◌, ◌++◌, Option, Some, None, nat_tests, false≢true}
+use Rattle.sbp_world.proofs.Words.Wire.{SerialsCount, Moment, said, Sending, terms}
+use Rattle.sbp_world.proofs.Words.Target.{Disk, Sense}
+use Rattle.sbp_world.proofs.Words.Initiator.{StatusKind}
+use Rattle.sbp_world.proofs.Words.Laws.{is_run_of, was_got, lowest_vacant, orb, prepared_in, slot_at, slots, is_serial, appends, ran_status, runs, status_of}
+use Rattle.sbp_world.proofs.Words.World.{WasGot, IsDataOf}
 use Rattle.sbp_journal.specs.declared.note.Note.TheVariants as notes
-use Rattle.sbp_laws.specs.CarriedBytes.{is_run_of, was_got}
-use Rattle.sbp_laws.specs.Lists.{lowest_vacant, orb, prepared_in, slot_at, slots}
-use Rattle.sbp_laws.specs.Targets.{is_serial}
-use Rattle.orb_layout.specs.declared.status.StatusKind.{StatusKind}
-use Rattle.sbp_laws.specs.Terms.{appends, ran_status, runs, status_of}
-use Rattle.rbc_command.specs.declared.sense.Sense.{Sense}
 use Rattle.sbp_world.proofs.Hosts.Deliveries.{GotsIn, find_got}
 use Rattle.sbp_world.proofs.Hosts.Remaining.{remains}
 use Rattle.sbp_world.proofs.Hosts.SentMoments.{sent_below, serials_from}
-use Rattle.sbp_world.specs.Lists.DataGots.{WasGot}
-use Rattle.sbp_world.specs.Lists.DataServes.{IsDataOf}
 use Rattle.sbp_world.proofs.Lists.DataSlots.{appends_grow, prepared_below, same_orb, slot_lasts}
 use Rattle.sbp_world.proofs.Lists.Passing.{PassAt, PassLaw, RunsNext}
 use Rattle.sbp_world.proofs.Lists.SlotShut.{AllApart}

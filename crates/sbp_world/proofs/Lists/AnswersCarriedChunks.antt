@@ -1,12 +1,9 @@
 -- Chunks of a buffer that were moved in turn, each from where the one before it ended, are the first ones of its chunks; and those that end with the buffer are all of them.
-use Rattle.std.proofs.Common.{arith, ◌≡◌, ◌∙◌, refl, sym, ap, append_assoc, ◌<◌, ◌≤◌, ◌+◌, ◌-◌, ◌*◌, ◌/◌, ◌==◌, ◌||◌, nat_lt, min, ℕ, zero, suc, Bool, true, false, List, [], ◌∷◌, ◌++◌, length, Option, Some, None, IsNone}
-use Rattle.std.proofs.lemmas.Bool.Decides.{nat_tests}
-use Rattle.std.proofs.lemmas.List.{append-nil, length-append}
-use Rattle.page_table.specs.declared.segment.Chunk.{Chunk}
-use Rattle.page_table.specs.declared.segment.Segment.{Segment}
-use Rattle.page_table.specs.Buffer.{before, bytes_of, chunk, chunk_from, chunks, pieces, taken_from}
+use Rattle.sbp_world.proofs.Words.Std.{arith, ◌≡◌, ◌∙◌, refl, sym, ap, append_assoc, ◌<◌, ◌≤◌, ◌+◌, ◌-◌, ◌*◌, ◌/◌, ◌==◌, ◌||◌, nat_lt, min, ℕ, zero, suc, Bool, true, false, List, [], ◌∷◌, ◌++◌, length, Option, Some, None, IsNone, nat_tests, append-nil}
+use Rattle.sbp_world.proofs.Words.Initiator.{Chunk, Segment, before, bytes_of, chunk, chunk_from, chunks, pieces, taken_from}
+use Rattle.sbp_world.proofs.Words.Laws.{Moved, begins_one}
+use Rattle.std.proofs.lemmas.List.{length-append}
 use Rattle.page_table.proofs.Chunks.{none_at_end}
-use Rattle.sbp_laws.specs.CarriedBytes.{Moved, begins_one}
 
 -- ---- calls in turn give the chunks of the buffer, be its segments empty
 shifted : (segment : Segment) (rest : List Segment) (done limit : ℕ) → chunk_from (segment ∷ rest) (segment.length + done) limit ≡ chunk_from rest done limit

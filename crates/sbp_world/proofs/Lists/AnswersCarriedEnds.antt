@@ -1,32 +1,15 @@
 -- As a good status is taken whose ORB has data that go to its initiator, in a buffer with bytes, the target wrote data of this ORB in the generation that the initiator is in; and where its data do not, it wrote none.
-use Rattle.rbc_disk.specs.Disk.{Disk}
-use Rattle.std.proofs.Common.{arith, ◌≡◌, ◌∙◌, refl, sym, ap, subst, ◌<◌, ◌≤◌, ◌+◌, nat_lt, nat_eq, ℕ, suc, Bool, true, false, cond, List, [], ◌∷◌, ◌++◌, Option, Some, None}
-use Rattle.std.proofs.lemmas.Bool.Decides.{nat_tests}
-use Rattle.std.proofs.lemmas.Bool.{false≢true}
-use Rattle.std.proofs.lemmas.Option.{same_Some}
-use Rattle.bus_transactions.specs.Packets.{SerialsCount}
-use Rattle.orb_layout.specs.declared.status.StatusKind.{StatusKind}
+use Rattle.sbp_world.proofs.Words.Std.{arith, ◌≡◌, ◌∙◌, refl, sym, ap, subst, ◌<◌, ◌≤◌, ◌+◌, nat_lt, nat_eq, ℕ, suc, Bool, true, false, cond, List, [], ◌∷◌, ◌++◌, Option, Some, None, nat_tests, false≢true, same_Some}
+use Rattle.sbp_world.proofs.Words.Wire.{SerialsCount, Cmd, Moment, asked, said, Sending, terms, AreJudged}
+use Rattle.sbp_world.proofs.Words.Target.{Disk, Machine}
+use Rattle.sbp_world.proofs.Words.Initiator.{StatusKind}
+use Rattle.sbp_world.proofs.Words.Laws.{cmd_of, command_at, last_got, lowest_vacant, orb, prepared_in, slot_at, slots, EndedOrb, status_due, MayEndWith, appends, ended_status, ends, runs, ran_status, EachMoment, event_of}
+use Rattle.sbp_world.proofs.Words.World.{IsTakenBy, AreServed, IsDataOf, IsAnswered, EndedWell, GoodEnds, IsWrittenWell, well_behind, well_fresh, IsTakenSo, IsToHost, IsTakenOf}
 use Rattle.orb_layout.specs.declared.status.StatusKind.TheVariants as kinds
-use Rattle.command_agent.specs.Machine.{Machine}
-use Rattle.sbp_journal.specs.declared.event.Cmd.{Cmd}
 use Rattle.sbp_journal.specs.declared.note.Note.TheVariants as notes
-use Rattle.sbp_journal.specs.Run.{Moment, asked, said}
-use Rattle.sbp_journal.specs.Transactions.{Sending}
-use Rattle.sbp_journal.specs.Wire.{terms}
-use Rattle.sbp_laws.specs.Lists.{cmd_of, command_at, last_got, lowest_vacant, orb, prepared_in, slot_at, slots}
-use Rattle.sbp_laws.specs.StatusLaw.{EndedOrb, status_due}
-use Rattle.sbp_laws.specs.ExecutionLaw.{MayEndWith}
-use Rattle.sbp_laws.specs.Terms.{appends, ended_status, ends, runs, ran_status}
 use Rattle.sbp_world.proofs.Lists.UnrunLaws.{unrun_law}
-use Rattle.sbp_laws.specs.Turns.{EachMoment, event_of}
 use Rattle.sbp_world.proofs.Hosts.Remaining.{remains}
 use Rattle.sbp_world.proofs.Hosts.SentMoments.{count_now, sent_there, serials_from}
-use Rattle.sbp_world.specs.Hosts.Statuses.Taking.{IsTakenBy}
-use Rattle.sbp_world.specs.Lists.DataServes.{AreServed, IsDataOf}
-use Rattle.sbp_world.specs.Lists.DataWrites.{IsAnswered}
-use Rattle.sbp_world.specs.Lists.EndsWell.{EndedWell, GoodEnds, IsWrittenWell, well_behind, well_fresh}
-use Rattle.sbp_world.specs.Lists.Statuses.{IsTakenSo, IsToHost}
-use Rattle.sbp_world.specs.Lists.StatusRuns.{IsTakenOf}
 use Rattle.sbp_world.proofs.Lists.AnswersCarriedBefore.{WereDataWritten, has_run, into, out, ran_told, run_on}
 use Rattle.sbp_world.proofs.Lists.DataClosed.{IsSound, answered_low, are_served, its, sent, sound_from}
 use Rattle.sbp_world.proofs.Lists.DataOpen.{ended_less}
@@ -38,7 +21,6 @@ use Rattle.sbp_world.proofs.Lists.ManageWire.{WireAt, WireMoments}
 use Rattle.sbp_world.proofs.Lists.OpenedMoments.{rest_same}
 use Rattle.sbp_world.proofs.Lists.Passing.{PassLaw}
 use Rattle.sbp_world.proofs.Lists.Rises.{Rises}
-use Rattle.bus_transactions.specs.Judging.{AreJudged}
 use Rattle.sbp_world.proofs.Lists.Sights.{BeginsLine, SightAt}
 use Rattle.sbp_world.proofs.Lists.StatusKnown.{each_from, generation_grows, got_by, IsKnown}
 use Rattle.sbp_world.proofs.Lists.StatusMoments.{DueIs, due_is, ended_stays}

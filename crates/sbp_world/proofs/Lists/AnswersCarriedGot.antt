@@ -1,35 +1,13 @@
 -- A write of data of an ORB that its initiator gets while the slot has this ORB: of the buffer of its command, behind the bytes of the answer that were written before; and where it has bytes, it is complete, and these are the bytes that
 -- it brings.
-use Rattle.rbc_disk.specs.Disk.{Disk}
-use Rattle.std.proofs.Common.{arith, ◌≡◌, ◌∙◌, refl, sym, ap, subst, ◌<◌, ◌≤◌, ◌+◌, ◌-◌, ◌^◌, ◌==◌, ◌&&◌, min, ℕ, suc, Bool, true, false, cond, List, [], ◌∷◌, ◌++◌, length, take, drop, Option, Some, None}
-use Rattle.std.specs.List.{filter}
-use Rattle.std.proofs.lemmas.Bool.Decides.{nat_tests}
-use Rattle.std.proofs.lemmas.Option.{same_Some}
-use Rattle.async_packet.specs.Reading.{reading}
-use Rattle.bus_memory.specs.Windows.{window_at}
-use Rattle.command_agent.specs.Machine.{Machine, cut_to}
-use Rattle.page_table.specs.declared.segment.Chunk.{Chunk}
-use Rattle.page_table.specs.declared.segment.Segment.{Segment}
-use Rattle.page_table.specs.Buffer.{addresses, chunk, chunk_from}
+use Rattle.sbp_world.proofs.Words.Std.{arith, ◌≡◌, ◌∙◌, refl, sym, ap, subst, ◌<◌, ◌≤◌, ◌+◌, ◌-◌, ◌^◌, ◌==◌, ◌&&◌, min, ℕ, suc, Bool, true, false, cond, List, [], ◌∷◌, ◌++◌, length, take, drop, Option, Some, None, filter, nat_tests, same_Some}
+use Rattle.sbp_world.proofs.Words.Wire.{reading, Access, Moment, said, Sending, terms, Cmd}
+use Rattle.sbp_world.proofs.Words.Target.{Disk, Machine, cut_to}
+use Rattle.sbp_world.proofs.Words.Initiator.{window_at, Chunk, Segment, addresses, chunk, chunk_from}
+use Rattle.sbp_world.proofs.Words.Laws.{Moved, begins_one, laid_out, written_by, written_in, command_at, orb, slot_at, access_at, access_in, packet_at, packet_in, receiver_in, sender_in, spelled_by, is_complete_at, is_serial, appends}
+use Rattle.sbp_world.proofs.Words.World.{is_got_by, Follows, touches, touching, write_in, IsDataOf, IsPieceOf, HasSlot}
 use Rattle.page_table.proofs.Places.{chunk_in_place}
-use Rattle.sbp_journal.specs.Addresses.{Access}
-use Rattle.sbp_journal.specs.Run.{Moment, said}
-use Rattle.sbp_journal.specs.Transactions.{Sending}
-use Rattle.sbp_journal.specs.Wire.{terms}
-use Rattle.sbp_journal.specs.declared.event.Cmd.{Cmd}
 use Rattle.sbp_journal.specs.declared.note.Note.TheVariants as notes
-use Rattle.sbp_laws.specs.CarriedBytes.{Moved, begins_one, laid_out, written_by, written_in}
-use Rattle.sbp_laws.specs.Lists.{command_at, orb, slot_at}
-use Rattle.sbp_laws.specs.Packets.{access_at, access_in, packet_at, packet_in, receiver_in, sender_in, spelled_by}
-use Rattle.sbp_laws.specs.Served.{is_complete_at}
-use Rattle.sbp_laws.specs.Targets.{is_serial}
-use Rattle.sbp_laws.specs.Terms.{appends}
-use Rattle.sbp_world.specs.Hosts.Bytes.{is_got_by}
-use Rattle.sbp_world.specs.Hosts.Carrying.{Follows}
-use Rattle.sbp_world.specs.Hosts.Gathered.{touches, touching, write_in}
-use Rattle.sbp_world.specs.Lists.DataServes.{IsDataOf}
-use Rattle.sbp_world.specs.Lists.DataWrites.{IsPieceOf}
-use Rattle.sbp_world.specs.Lists.SlotsStay.{HasSlot}
 use Rattle.sbp_world.proofs.Lists.AnswersCarriedBefore.{stands_at}
 use Rattle.sbp_world.proofs.Lists.AnswersCarriedChunks.{IsFront, front_begins}
 use Rattle.sbp_world.proofs.Lists.AnswersCarriedWrites.{IsBlockWrite, block_write, complete, limit, pieces, places, positive, touched, writes_here, is_buffer, is_buffer_there}

@@ -1,22 +1,12 @@
 -- The commands of lines lay out buffers that lie in the windows of their slots, and fill them.
-use Rattle.std.proofs.Common.{◌≡◌, ◌∙◌, refl, subst, ℕ, nat_eq, Bool, true, false, cond, List, [], ◌∷◌, ◌++◌, map, Option, Some, None}
-use Rattle.std.proofs.lemmas.Option.{same_Some}
-use Rattle.sbp_initiator.specs.Acting.{IsAction}
-use Rattle.sbp_journal.specs.Run.{Moment, asked, said}
-use Rattle.sbp_journal.specs.declared.event.Action.{Action}
+use Rattle.sbp_world.proofs.Words.Std.{◌≡◌, ◌∙◌, refl, subst, ℕ, nat_eq, Bool, true, false, cond, List, [], ◌∷◌, ◌++◌, map, Option, Some, None, same_Some}
+use Rattle.sbp_world.proofs.Words.Wire.{Moment, asked, said, Action, Cmd, Event, Note}
+use Rattle.sbp_world.proofs.Words.Initiator.{IsAction}
+use Rattle.sbp_world.proofs.Words.Laws.{laid_out, cmd_of, command_at, event_of}
+use Rattle.sbp_world.proofs.Words.World.{history_of, moments_behind, Entry, Run, AreLines, FillsAction, IsLine, more_deliveries}
 use Rattle.sbp_journal.specs.declared.event.Action.TheVariants as actions
-use Rattle.sbp_journal.specs.declared.event.Cmd.{Cmd}
-use Rattle.sbp_journal.specs.declared.event.Event.{Event}
 use Rattle.sbp_journal.specs.declared.event.Event.TheVariants as events
-use Rattle.sbp_journal.specs.declared.note.Note.{Note}
 use Rattle.sbp_journal.specs.declared.note.Note.TheVariants as notes
-use Rattle.sbp_laws.specs.CarriedBytes.{laid_out}
-use Rattle.sbp_laws.specs.Lists.{cmd_of, command_at}
-use Rattle.sbp_laws.specs.Turns.{event_of}
-use Rattle.sbp_world.specs.Histories.{history_of, moments_behind}
-use Rattle.sbp_world.specs.Runs.{Entry, Run}
-use Rattle.sbp_world.specs.Wire.Lines.{AreLines, FillsAction, IsLine}
-use Rattle.sbp_world.specs.Hosts.Runs.{more_deliveries}
 use Rattle.sbp_world.proofs.Hosts.BytePlaces.{buffer_length}
 use Rattle.sbp_world.proofs.Hosts.OrbFits.{IsFull}
 use Rattle.sbp_world.proofs.Hosts.OrbTables.{whole_bytes}

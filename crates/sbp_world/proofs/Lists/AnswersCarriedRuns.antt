@@ -1,31 +1,15 @@
 -- In every run in which no initiator injected packets, or few logins were given, where lists were open as they should be before, the answers of good statuses are what the data writes of their ORBs brought.
+use Rattle.sbp_world.proofs.Words.Std.{ℕ, List, length, ◌∙◌, subst, ◌<◌, ◌∷◌, ◌++◌, map}
+use Rattle.sbp_world.proofs.Words.Wire.{Moment, asked, said}
+use Rattle.sbp_world.proofs.Words.Target.{Disk}
+use Rattle.sbp_world.proofs.Words.Laws.{EachMoment, injectors}
+use Rattle.sbp_world.proofs.Words.World.{WorldState, IsCalm, UnderFrom, history_of, after, beginning, after_all, begun, more_deliveries, GoodEndsLaw, AnswersBroughtLaw, Under, WhereTameOrFew, AllEndSo, AllDataSo, AllStatuses}
 use Rattle.sbp_world.proofs.Lists.AnswersCarriedTaken.{WholeAt, all_brought, each_whole}
-use Rattle.sbp_world.specs.Worlds.{WorldState}
-use Rattle.sbp_world.specs.Lists.Needs.{IsCalm}
-use Rattle.rbc_disk.specs.Disk.{Disk}
-use Rattle.sbp_journal.specs.Run.{Moment}
-use Rattle.sbp_laws.specs.Turns.{EachMoment}
-use Rattle.std.proofs.Common.{ℕ, List, length}
-use Rattle.sbp_world.specs.Lists.Closes.{UnderFrom}
-use Rattle.std.proofs.Common.{◌∙◌, subst, ◌<◌, ◌∷◌, ◌++◌, map}
-use Rattle.sbp_journal.specs.Run.{asked, said}
-use Rattle.sbp_laws.specs.Lawful.{injectors}
-use Rattle.sbp_world.specs.Histories.{history_of}
-use Rattle.sbp_world.specs.Runs.{after, beginning}
-use Rattle.sbp_world.specs.Settling.{after_all}
-use Rattle.sbp_world.specs.Worlds.{begun}
-use Rattle.sbp_world.specs.Hosts.Runs.{more_deliveries}
 use Rattle.sbp_world.proofs.Hosts.AnswerRuns.{taken_law}
 use Rattle.sbp_world.proofs.Hosts.Gathered.{gathered_law}
-use Rattle.sbp_world.specs.Lists.EndsWell.{GoodEndsLaw}
 use Rattle.sbp_world.proofs.Lists.Sights.{sights_after, sights_between}
 use Rattle.sbp_world.proofs.Lists.StatusLaws.{status_of_run_law}
 use Rattle.sbp_world.proofs.Hosts.Runs.{count_after, count_between}
-use Rattle.sbp_world.specs.Lists.AnswersCarried.{AnswersBroughtLaw}
-use Rattle.sbp_world.specs.Lists.Closes.{Under, WhereTameOrFew}
-use Rattle.sbp_world.specs.Lists.DataEnds.{AllEndSo}
-use Rattle.sbp_world.specs.Lists.DataWrites.{AllDataSo}
-use Rattle.sbp_world.specs.Lists.Statuses.{AllStatuses}
 use Rattle.sbp_world.proofs.Lists.AnswersCarriedLines.{fit_after, fit_said, more_fit}
 use Rattle.sbp_world.proofs.Lists.DataServing.{known_after, known_between, sound_after, sound_between}
 use Rattle.sbp_world.proofs.Lists.ManageLaws as manage

@@ -1,37 +1,23 @@
 -- As a good status is taken, the writes of the data of its ORB have brought the chunks of its buffer, each once and in order; so the answer is their bytes.
+use Rattle.sbp_world.proofs.Words.Std.{filter, inl, inr, arith, ◌≡◌, ◌∙◌, refl, sym, ap, subst, ◌+◌, ◌^◌, ◌==◌, ℕ, Bool, true, false, cond, List, [], ◌∷◌, ◌++◌, map, Some}
+use Rattle.sbp_world.proofs.Words.Wire.{Sending, Moment, asked, said, Cmd, terms}
+use Rattle.sbp_world.proofs.Words.Target.{Disk}
+use Rattle.sbp_world.proofs.Words.Initiator.{Segment, bytes_of}
+use Rattle.sbp_world.proofs.Words.Laws.{begins_one, laid_out, pieces_of, writes_since, command_at, prepared_in, slot_at, EachMoment}
+use Rattle.sbp_world.proofs.Words.World.{IsDataOf, GoodEnds, IsTakenOf, TakenOfOne, BroughtOf, IsBroughtAnswer, IsTakenSo, TakenSo, AreInTurn, AreOfTarget, IsGathered, piece_of, written_of, IsTakenBy, TakenOf, IsWrittenTo}
 use Rattle.sbp_world.proofs.Lists.FedPieces.{all_bytes}
 use Rattle.std.specs.Prelude.{take}
-use Rattle.rbc_disk.specs.Disk.{Disk}
-use Rattle.std.specs.List.{filter}
-use Rattle.page_table.specs.declared.segment.Segment.{Segment}
-use Rattle.sbp_journal.specs.Transactions.{Sending}
-use Rattle.sbp_laws.specs.CarriedBytes.{begins_one, laid_out, pieces_of, writes_since}
 use Rattle.sbp_world.specs.Hosts.Answers.{IsAnswerOf}
-use Rattle.sbp_world.specs.Lists.DataServes.{IsDataOf}
-use Rattle.sbp_world.specs.Lists.EndsWell.{GoodEnds}
-use Rattle.sbp_world.specs.Lists.StatusRuns.{IsTakenOf, TakenOfOne}
 use Rattle.sbp_world.proofs.Hosts.BytePlaces.{buffer_length}
 use Rattle.sbp_world.proofs.Lists.AnswersCarriedEnds.{Wrote, has_none, has_written, ran, wrote}
 use Rattle.sbp_world.proofs.Lists.ManageWire.{WireAt, WireMoments}
 use Rattle.sbp_world.proofs.Lists.Sights.{SightAt}
-use Rattle.sbp_journal.specs.Run.{Moment, asked, said}
-use Rattle.sbp_world.specs.Lists.AnswersCarried.{BroughtOf, IsBroughtAnswer}
-use Rattle.sbp_world.specs.Lists.Statuses.{IsTakenSo, TakenSo}
 use Rattle.sbp_world.proofs.Lists.AnswersCarriedBefore.{WasSentThen, WereDataWritten, apart_from, has_run, known_from}
 use Rattle.sbp_world.proofs.Lists.AnswersCarriedChunks.{front_none, front_whole}
 use Rattle.sbp_world.proofs.Lists.AnswersCarriedTracks.{IsReady, Tracked, all_written, not_yet, tracked_now, up_to}
 use Rattle.sbp_world.proofs.Lists.StatusKnown.{IsKnown, each_from, waits_so}
-use Rattle.std.proofs.Common.{inl, inr, arith, ◌≡◌, ◌∙◌, refl, sym, ap, subst, ◌+◌, ◌^◌, ◌==◌, ℕ, Bool, true, false, cond, List, [], ◌∷◌, ◌++◌, map, Some}
 use Rattle.orb_layout.specs.declared.status.StatusKind.TheVariants as kinds
-use Rattle.page_table.specs.Buffer.{bytes_of}
-use Rattle.sbp_journal.specs.declared.event.Cmd.{Cmd}
 use Rattle.sbp_journal.specs.declared.note.Note.TheVariants as notes
-use Rattle.sbp_journal.specs.Wire.{terms}
-use Rattle.sbp_laws.specs.Lists.{command_at, prepared_in, slot_at}
-use Rattle.sbp_laws.specs.Turns.{EachMoment}
-use Rattle.sbp_world.specs.Hosts.Gathered.{AreInTurn, AreOfTarget, IsGathered, piece_of, written_of}
-use Rattle.sbp_world.specs.Hosts.Statuses.Taking.{IsTakenBy, TakenOf}
-use Rattle.sbp_world.specs.Lists.DataSequences.{IsWrittenTo}
 use Rattle.sbp_world.proofs.Hosts.Deliveries.{GotsIn}
 use Rattle.sbp_world.proofs.Hosts.SentMoments.{sent_below}
 use Rattle.sbp_world.proofs.Lists.AnswersCarriedLines.{AreFit, fills_slot, fit_from}

@@ -1,38 +1,13 @@
 -- What brought bytes of the buffer of an ORB whose data go to its initiator, or of which the target wrote none, by the moments of a history: the writes of its data, each behind the bytes of the one before it. So these are the target's writes to its pieces since it ran.
+use Rattle.sbp_world.proofs.Words.Std.{inl, inr, ◌⊎◌, arith, ◌≡◌, ◌∙◌, refl, sym, ap, subst, ◌<◌, ◌≤◌, ◌+◌, ◌^◌, ◌==◌, ◌&&◌, ℕ, zero, suc, nat_eq, nat_lt, Bool, true, false, cond, List, [], ◌∷◌, ◌++◌, length, map, Option, Some, None, filter, nat_tests, append-nil, map-append, filter-append, false≢true, same_Some}
+use Rattle.sbp_world.proofs.Words.Wire.{SerialsCount, Access, Moment, said, Sending, terms, Cmd, NoteBuffer}
+use Rattle.sbp_world.proofs.Words.Target.{Disk, Sense}
+use Rattle.sbp_world.proofs.Words.Initiator.{window_at, Chunk, Segment, bytes_of, chunk, chunk_from}
+use Rattle.sbp_world.proofs.Words.Laws.{Moved, begins_one, is_run_of, laid_out, was_got, writes_since, written_by, command_at, lowest_vacant, orb, prepared_in, slot_at, slots, access_at, access_in, access_in_bytes, packet_at, packet_in, receiver_in, sender_in, is_serial, appends}
+use Rattle.sbp_world.proofs.Words.World.{is_got_by, piece_of, touching, write_in, written_at, IsLatestData, WasGot, IsReached, IsWrittenTo, begins, goes_on, IsDataOf, WasClosed, IsDataWrite}
 use Rattle.sbp_world.proofs.Lists.FedPieces.{all_bytes, all_more}
 use Rattle.std.specs.Prelude.{drop, take}
-use Rattle.rbc_disk.specs.Disk.{Disk}
-use Rattle.std.proofs.Common.{inl, inr, ◌⊎◌, arith, ◌≡◌, ◌∙◌, refl, sym, ap, subst, ◌<◌, ◌≤◌, ◌+◌, ◌^◌, ◌==◌, ◌&&◌, ℕ, zero, suc, nat_eq, nat_lt, Bool, true, false, cond, List, [], ◌∷◌, ◌++◌, length, map, Option, Some, None}
-use Rattle.std.specs.List.{filter}
-use Rattle.std.proofs.lemmas.Bool.Decides.{nat_tests}
-use Rattle.std.proofs.lemmas.List.{append-nil, map-append}
-use Rattle.std.proofs.lemmas.List.Elements.{filter-append}
-use Rattle.std.proofs.lemmas.Bool.{false≢true}
-use Rattle.std.proofs.lemmas.Option.{same_Some}
-use Rattle.bus_memory.specs.Windows.{window_at}
-use Rattle.bus_transactions.specs.Packets.{SerialsCount}
-use Rattle.page_table.specs.declared.segment.Chunk.{Chunk}
-use Rattle.page_table.specs.declared.segment.Segment.{Segment}
-use Rattle.page_table.specs.Buffer.{bytes_of, chunk, chunk_from}
-use Rattle.sbp_journal.specs.Addresses.{Access}
-use Rattle.sbp_journal.specs.Run.{Moment, said}
-use Rattle.sbp_journal.specs.Transactions.{Sending}
-use Rattle.sbp_journal.specs.Wire.{terms}
-use Rattle.sbp_journal.specs.declared.event.Cmd.{Cmd}
-use Rattle.rbc_command.specs.declared.sense.Sense.{Sense}
 use Rattle.sbp_journal.specs.declared.note.Note.TheVariants as notes
-use Rattle.sbp_journal.specs.declared.note.NoteBuffer.{NoteBuffer}
-use Rattle.sbp_laws.specs.CarriedBytes.{Moved, begins_one, is_run_of, laid_out, was_got, writes_since, written_by}
-use Rattle.sbp_laws.specs.Lists.{command_at, lowest_vacant, orb, prepared_in, slot_at, slots}
-use Rattle.sbp_laws.specs.Packets.{access_at, access_in, access_in_bytes, packet_at, packet_in, receiver_in, sender_in}
-use Rattle.sbp_laws.specs.Targets.{is_serial}
-use Rattle.sbp_laws.specs.Terms.{appends}
-use Rattle.sbp_world.specs.Hosts.Bytes.{is_got_by}
-use Rattle.sbp_world.specs.Hosts.Gathered.{piece_of, touching, write_in, written_at}
-use Rattle.sbp_world.specs.Lists.DataGots.{IsLatestData, WasGot}
-use Rattle.sbp_world.specs.Lists.DataSequences.{IsReached, IsWrittenTo, begins, goes_on}
-use Rattle.sbp_world.specs.Lists.DataServes.{IsDataOf, WasClosed}
-use Rattle.sbp_world.specs.Lists.DataWrites.{IsDataWrite}
 use Rattle.sbp_world.proofs.Hosts.Deliveries.{GotsIn, find_got}
 use Rattle.sbp_world.proofs.Hosts.Remaining.{remains}
 use Rattle.sbp_world.proofs.Hosts.SentMoments.{sent_below, serials_from}

@@ -1,31 +1,13 @@
 -- A packet that an initiator gets, and the buffer of a slot: it brings bytes of the buffer, and is one of the writes of the target to its pieces, only where it writes into the window of this buffer; and a write of a
 -- piece of the buffer is complete while the slot has an ORB whose data go to the initiator.
-use Rattle.std.proofs.Common.{inl, inr, ◌⊎◌, arith, ◌≡◌, ◌∙◌, refl, sym, ap, ◌<◌, ◌≤◌, ◌+◌, ◌-◌, ◌^◌, ◌==◌, ◌&&◌, not, nat_le, nat_lt, nat_eq, ℕ, suc, zero, Bool, true, false, cond, List, [], ◌∷◌, length, slice_index_or, Option, Some, None}
-use Rattle.std.specs.List.{filter}
-use Rattle.std.proofs.lemmas.Bool.Decides.{nat_tests}
-use Rattle.std.proofs.lemmas.List.Folds.{Any-from_list_any, list_any_at}
-use Rattle.std.proofs.lemmas.Bool.{false≢true}
-use Rattle.std.proofs.lemmas.Option.{same_Some}
-use Rattle.async_packet.specs.Packet.{Packet, lock, lock_response, read_block, read_block_response, read_quadlet, read_quadlet_response, write_block, write_quadlet, write_response}
-use Rattle.byteorder.specs.Endian.{big_bytes}
-use Rattle.bus_memory.specs.declared.window.Window.{Window}
+use Rattle.sbp_world.proofs.Words.Std.{inl, inr, ◌⊎◌, arith, ◌≡◌, ◌∙◌, refl, sym, ap, ◌<◌, ◌≤◌, ◌+◌, ◌-◌, ◌^◌, ◌==◌, ◌&&◌, not, nat_le, nat_lt, nat_eq, ℕ, suc, zero, Bool, true, false, cond, List, [], ◌∷◌, length, Option, Some, None, filter, nat_tests, Any-from_list_any, list_any_at, false≢true, same_Some, big_bytes}
+use Rattle.sbp_world.proofs.Words.Wire.{Packet, lock, lock_response, read_block, read_block_response, read_quadlet, read_quadlet_response, write_block, write_quadlet, write_response, Access, access_of, first_or, Moment, Cmd}
+use Rattle.sbp_world.proofs.Words.Initiator.{Window, IfShare, IsWindow, is_fifo, start, window_at, Chunk, buffer_addresses, chunks}
+use Rattle.sbp_world.proofs.Words.Laws.{Moved, begins_one, laid_out, pieces_of, written_in, rom_size, SlotState, orb, prepared_in, slots, vacant, used, resting, command_at, access_in, direction_of, goes_in, has_direction, is_complete_at, is_open, is_used, lies_inside, size_of, slot_is_open}
+use Rattle.sbp_world.proofs.Words.World.{Follows, touches, touching, write_in, HasSlot}
+use Rattle.std.proofs.Common.{slice_index_or}
 use Rattle.bus_memory.specs.declared.window.Window.TheVariants as windows
-use Rattle.bus_memory.specs.Windows.{IfShare, IsWindow, is_fifo, start, window_at}
 use Rattle.bus_memory.proofs.Found.{window_share}
-use Rattle.page_table.specs.declared.segment.Chunk.{Chunk}
-use Rattle.page_table.specs.Buffer.{buffer_addresses, chunks}
-use Rattle.sbp_journal.specs.Addresses.{Access, access_of}
-use Rattle.sbp_journal.specs.Rows.{first_or}
-use Rattle.sbp_journal.specs.Run.{Moment}
-use Rattle.sbp_journal.specs.declared.event.Cmd.{Cmd}
-use Rattle.sbp_laws.specs.CarriedBytes.{Moved, begins_one, laid_out, pieces_of, written_in}
-use Rattle.sbp_laws.specs.JudgementLaw.{rom_size}
-use Rattle.sbp_laws.specs.Lists.{SlotState, orb, prepared_in, slots, vacant, used, resting, command_at}
-use Rattle.sbp_laws.specs.Packets.{access_in}
-use Rattle.sbp_laws.specs.Served.{direction_of, goes_in, has_direction, is_complete_at, is_open, is_used, lies_inside, size_of, slot_is_open}
-use Rattle.sbp_world.specs.Hosts.Carrying.{Follows}
-use Rattle.sbp_world.specs.Hosts.Gathered.{touches, touching, write_in}
-use Rattle.sbp_world.specs.Lists.SlotsStay.{HasSlot}
 use Rattle.sbp_world.proofs.Hosts.BytePlaces.{address_at, laid_at, laid_room, place_of}
 use Rattle.sbp_world.proofs.Hosts.ByteReads.{part_at}
 use Rattle.sbp_world.proofs.Hosts.ResponseTells.{inside_by}

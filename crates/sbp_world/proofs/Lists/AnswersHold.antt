@@ -1,20 +1,11 @@
 -- Each answer that is taken is carried, and is that of the plain disk, in every run in which no initiator injected packets, or few logins were given.
-use Rattle.std.proofs.Common.{refl, ◌≡◌, ◌∙◌, sym, ap, subst, IfSome, ◌<◌, ℕ, Bool, true, false, List, [], ◌∷◌}
-use Rattle.std.proofs.lemmas.Option.{same_Some}
+use Rattle.sbp_world.proofs.Words.Std.{refl, ◌≡◌, ◌∙◌, sym, ap, subst, IfSome, ◌<◌, ℕ, Bool, true, false, List, [], ◌∷◌, same_Some}
+use Rattle.sbp_world.proofs.Words.Wire.{Cmd, Moment, asked, said}
+use Rattle.sbp_world.proofs.Words.Target.{Disk, answer_length_of, answer_of}
+use Rattle.sbp_world.proofs.Words.Laws.{AnswerAt, Answers, ExecutionLaw, injectors, EachMoment}
+use Rattle.sbp_world.proofs.Words.World.{history_of, AnswerLengthsLaw, HasLength, LengthOf, AnswerCarriedAt, AnswersHoldLaw, OpenListsLaw, UnderFrom, WhereTameOrFew}
 use Rattle.orb_layout.specs.declared.status.StatusKind.TheVariants as kinds
-use Rattle.rbc_disk.specs.Disk.{Disk}
-use Rattle.rbc_disk.specs.Runs.{answer_length_of, answer_of}
-use Rattle.sbp_journal.specs.declared.event.Cmd.{Cmd}
 use Rattle.sbp_journal.specs.declared.note.Note.TheVariants as notes
-use Rattle.sbp_journal.specs.Run.{Moment, asked, said}
-use Rattle.sbp_laws.specs.AnswerLaw.{AnswerAt, Answers}
-use Rattle.sbp_laws.specs.ExecutionLaw.{ExecutionLaw}
-use Rattle.sbp_laws.specs.Lawful.{injectors}
-use Rattle.sbp_laws.specs.Turns.{EachMoment}
-use Rattle.sbp_world.specs.Histories.{history_of}
-use Rattle.sbp_world.specs.Lists.AnswerLengths.{AnswerLengthsLaw, HasLength, LengthOf}
-use Rattle.sbp_world.specs.Lists.AnswersHold.{AnswerCarriedAt, AnswersHoldLaw}
-use Rattle.sbp_world.specs.Lists.Closes.{OpenListsLaw, UnderFrom, WhereTameOrFew}
 use Rattle.sbp_world.proofs.Lists.AnswerLengths.{AreFilled, commands_fill, filled_behind}
 use Rattle.sbp_world.proofs.Lists.AnswersCarriedTaken.{IsWhole, IsWhose, WholeAt, of_data, of_none}
 use Rattle.sbp_world.proofs.Lists.AnswersRight.{answers, told_empty, told_written}

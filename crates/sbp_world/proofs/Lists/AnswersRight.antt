@@ -1,24 +1,14 @@
 -- The answer of a good status is that of the plain disk, where the medium tells it: what brought it are bytes of the answer that the disk had for the command as that ran.
-use Rattle.std.proofs.Common.{◌≡◌, ◌∙◌, refl, sym, ap, subst, IfSome, IsSomeAnd, ◌<◌, ℕ, zero, suc, Bool, false, List, [], ◌∷◌, ◌++◌, length, Option, Some, None}
+use Rattle.sbp_world.proofs.Words.Std.{◌≡◌, ◌∙◌, refl, sym, ap, subst, IfSome, IsSomeAnd, ◌<◌, ℕ, zero, suc, Bool, false, List, [], ◌∷◌, ◌++◌, length, Option, Some, None}
+use Rattle.sbp_world.proofs.Words.Wire.{Cmd, Moment, said, Sending}
+use Rattle.sbp_world.proofs.Words.Target.{Machine, Disk, answer_length_of, answer_of}
+use Rattle.sbp_world.proofs.Words.Laws.{Answers, before_run, ExecutionLaw, disk_of, Request, appends, request_at}
+use Rattle.sbp_world.proofs.Words.World.{request_of, HasLength, IsAnswerBefore, IsAnswerOf, IsDataOf}
 use Rattle.std.specs.Prelude.{take}
-use Rattle.command_agent.specs.Machine.{Machine}
-use Rattle.rbc_disk.specs.Disk.{Disk}
-use Rattle.rbc_disk.specs.Runs.{answer_length_of, answer_of}
-use Rattle.sbp_journal.specs.declared.event.Cmd.{Cmd}
 use Rattle.sbp_journal.specs.declared.note.Note.TheVariants as notes
-use Rattle.sbp_journal.specs.Run.{Moment, said}
-use Rattle.sbp_journal.specs.Transactions.{Sending}
-use Rattle.sbp_laws.specs.AnswerLaw.{Answers, before_run}
 use Rattle.sbp_laws.specs.AnswerLaw as law
-use Rattle.sbp_laws.specs.ExecutionLaw.{ExecutionLaw}
-use Rattle.sbp_laws.specs.Targets.{disk_of}
-use Rattle.sbp_laws.specs.Terms.{Request, appends, request_at}
-use Rattle.sbp_world.specs.Hosts.Orbs.{request_of}
-use Rattle.sbp_world.specs.Lists.AnswerLengths.{HasLength}
 use Rattle.sbp_world.proofs.Lists.AnswersCarriedBefore.{WereDataWritten}
 use Rattle.sbp_world.proofs.Lists.AnswersCarriedTaken.{AreAnswersOf}
-use Rattle.sbp_world.specs.Lists.AnswersTold.{IsAnswerBefore, IsAnswerOf}
-use Rattle.sbp_world.specs.Lists.DataServes.{IsDataOf}
 use Rattle.sbp_world.proofs.Lists.AnswerChecks.{told_none}
 use Rattle.sbp_world.proofs.Lists.AnswerDisks.{answer_before}
 use Rattle.sbp_world.proofs.Lists.AnswerRuns.{answer_on}

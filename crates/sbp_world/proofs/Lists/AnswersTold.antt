@@ -1,36 +1,17 @@
 -- While an agent writes an answer, it is the one that the plain disk had for the command of its present ORB as it ran: so a reply by which a command runs leaves it, and it stays until the ORB ends.
-use Rattle.sbp_laws.specs.ExecutionLaw.{ExecutionLaw}
+use Rattle.sbp_world.proofs.Words.Std.{arith, ◌≡◌, refl, sym, ap, subst, ◌<◌, ℕ, zero, suc, Bool, true, false, List, [], Option, Some, None, ◌++◌, IfSome, ◌⊎◌, inl, inr, ◌∙◌, ◌∷◌, map, length, slice_index_or, false≢true, same_Some, none-some}
+use Rattle.sbp_world.proofs.Words.Wire.{judging_step, of_response, Sent, Moment, said, asked, LabelParts, Packet, header_in, or_nobody, found_sent, check_of}
+use Rattle.sbp_world.proofs.Words.Target.{desk_at, Told, answer_length_of, answer_of, check_in, Disk, Desk, new_desk, which_in, Knows, Outcome, PlainDisk, Which, AgentStep, Machine, reply_step, Login, plain_in, served_login, answer_in}
+use Rattle.sbp_world.proofs.Words.Laws.{ExecutionLaw, slot_at, ends, lists, runs, disk_of, injectors}
+use Rattle.sbp_world.proofs.Words.World.{MayTell, moments_behind, history_of, Run, beginning, after, after_all, WorldState, begun, Scene, initiator_in, machine_at, IsOpenAt, IsCalm, holder, new_world, answers, has_list, more_deliveries, UnderFrom, AnswersToldLaw, AreAnswers, IsAnswerOf, AreWhole, orbs}
 use Rattle.sbp_world.proofs.Lists.AnswerDisks.{answer_before}
 use Rattle.sbp_world.proofs.Lists.Executes.{execution_run_law}
 use Rattle.sbp_journal.specs.declared.note.Note.TheVariants as notes
 use Rattle.sbp_target.specs.declared.purpose.Purpose.TheVariants as purposes
-use Rattle.sbp_world.specs.Delivering.{MayTell}
-use Rattle.sbp_target.specs.Nodes.{desk_at}
-use Rattle.label_table.specs.Layer.{judging_step, of_response}
-use Rattle.rbc_disk.specs.Runs.{Told, answer_length_of, answer_of, check_in}
 use Rattle.sbp_world.proofs.Lists.Turns.{Ready}
-use Rattle.packet_store.specs.declared.sent.Sent.{Sent}
-use Rattle.std.proofs.Common.{arith, ◌≡◌, refl, sym, ap, subst, ◌<◌, ℕ, zero, suc, Bool, true, false, List, [], Option, Some, None, ◌++◌, IfSome, ◌⊎◌, inl, inr, ◌∙◌, ◌∷◌, map, length}
-use Rattle.std.specs.Prelude.{slice_index_or, replicate}
-use Rattle.std.proofs.lemmas.Bool.{false≢true}
-use Rattle.std.proofs.lemmas.Option.{same_Some, none-some}
-use Rattle.rbc_disk.specs.Disk.{Disk}
-use Rattle.sbp_journal.specs.Run.{Moment, said, asked}
-use Rattle.sbp_world.specs.Histories.{moments_behind, history_of}
-use Rattle.sbp_world.specs.Runs.{Run, beginning, after}
-use Rattle.sbp_world.specs.Settling.{after_all}
-use Rattle.sbp_world.specs.Worlds.{WorldState, begun, Scene}
+use Rattle.std.specs.Prelude.{replicate}
 use Rattle.sbp_world.proofs.Agents.Management.Still.{hist}
-use Rattle.sbp_world.specs.Lists.Needs.{initiator_in, machine_at, IsOpenAt, IsCalm}
 use Rattle.sbp_world.proofs.Lists.Walks.{Walks, Step, walked_from, walked_from_between}
-use Rattle.sbp_world.specs.Telling.{holder}
-use Rattle.sbp_laws.specs.Lists.{slot_at}
-use Rattle.sbp_target.specs.declared.desk.Desk.{Desk}
-use Rattle.sbp_target.specs.Desks.{new_desk, which_in}
-use Rattle.sbp_world.specs.Making.{new_world}
-use Rattle.sbp_world.specs.Agents.Alike.{answers, has_list}
-use Rattle.sbp_world.specs.Hosts.Runs.{more_deliveries}
-use Rattle.sbp_world.specs.Lists.Closes.{UnderFrom}
 use Rattle.sbp_world.proofs.Lists.AnswerLengths.{commands_fill}
 use Rattle.sbp_world.proofs.Lists.DataSteps.{ArePrepared, answer_kept, answers_is, has_run, ran_well}
 use Rattle.sbp_world.proofs.Lists.Executes.{asked_of}
@@ -40,8 +21,6 @@ use Rattle.sbp_world.proofs.Lists.RunTells.{delivery_may, NoneRan, RanBy, ran_as
 use Rattle.sbp_world.proofs.Lists.Sites.{named_prepared}
 use Rattle.sbp_world.proofs.Lists.MachineTurns.{turn_full, heard_in}
 use Rattle.sbp_world.proofs.Lists.DataWhole.{Ground, all_filled, whole_law}
-use Rattle.sbp_world.specs.Lists.AnswersTold.{AnswersToldLaw, AreAnswers, IsAnswerOf}
-use Rattle.sbp_world.specs.Lists.DataWhole.{AreWhole}
 use Rattle.sbp_world.proofs.Lists.AnswersKept.{Writes, writes_closed}
 use Rattle.sbp_world.proofs.Lists.AnswerRuns.{WasFirst, answer_on, answering_none, runs_key, unrun_runs, was_first}
 use Rattle.sbp_world.proofs.Lists.AnswerComes.{Comes, ComesOne, RanHere, note_of, one, quiet, turn_comes, turn_ran, same_found}
@@ -51,26 +30,7 @@ use Rattle.sbp_world.proofs.Lists.UnrunLaws.{unrun_law}
 use Rattle.sbp_world.proofs.Lists.UnrunTerms.{passes_from}
 use Rattle.sbp_world.proofs.Lists.Running.{runs_other}
 use Rattle.sbp_world.proofs.Lists.Passing.{GoesOn, PassAt, PassLaw}
-use Rattle.sbp_world.specs.Lists.Lists.{orbs}
-use Rattle.agent_laws.specs.Along.Along.{Knows}
-use Rattle.sbp_laws.specs.Terms.{ends, lists, runs}
-use Rattle.sbp_laws.specs.Targets.{disk_of}
-use Rattle.rbc_disk.specs.declared.command.Outcome.{Outcome}
-use Rattle.rbc_disk.specs.Units.{PlainDisk}
-use Rattle.command_agent.specs.declared.step.Which.{Which}
-use Rattle.command_agent.specs.declared.step.AgentStep.{AgentStep}
-use Rattle.command_agent.specs.Machine.{Machine}
-use Rattle.command_agent.specs.Steps.{reply_step}
-use Rattle.async_packet.specs.Labels.{LabelParts}
-use Rattle.async_packet.specs.Packet.{Packet, header_in}
-use Rattle.login_table.specs.declared.login.Login.{Login}
 use Rattle.login_table.proofs.Searching.{within}
-use Rattle.sbp_target.specs.Replies.{plain_in, served_login}
-use Rattle.sbp_target.specs.Receiving.{answer_in}
-use Rattle.sbp_bus.specs.Places.{or_nobody}
-use Rattle.packet_store.specs.Kept.{found_sent}
-use Rattle.sbp_bus.specs.Words.{check_of}
-use Rattle.sbp_laws.specs.Lawful.{injectors}
 use Rattle.sbp_world.proofs.Lists.Courses.{EveryPlace}
 use Rattle.sbp_world.proofs.Common.{delivers, moments_joined as joined}
 

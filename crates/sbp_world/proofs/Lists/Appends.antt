@@ -1,32 +1,17 @@
 -- What an action tells is good: an append has the next number of the present list, or begins the next list, and its slot is one in which no ORB of its
 -- list waits.
-use Rattle.std.proofs.Common.{◌≡◌, ◌∙◌, refl, sym, ap, subst, ◌<◌, ◌≤◌, ◌==◌, ℕ, zero, suc, nat_eq, not, is_some, Bool, true, false, cond, List, [], ◌∷◌, map, length, Option, Some, None, arith}
-use Rattle.std.specs.Prelude.{if◌then◌else◌}
-use Rattle.std.proofs.lemmas.Bool.Decides.{nat_tests}
-use Rattle.std.proofs.lemmas.Option.{same_Some, none-some}
-use Rattle.orb_list.specs.declared.list.PresentList.{PresentList}
-use Rattle.orb_list.specs.declared.slot.SlotState.{SlotState}
+use Rattle.sbp_world.proofs.Words.Std.{◌≡◌, ◌∙◌, refl, sym, ap, subst, ◌<◌, ◌≤◌, ◌==◌, ℕ, zero, suc, nat_eq, not, is_some, Bool, true, false, cond, List, [], ◌∷◌, map, length, Option, Some, None, arith, if◌then◌else◌, nat_tests, same_Some, none-some}
+use Rattle.sbp_world.proofs.Words.Wire.{Action, Cmd, Moment, said}
+use Rattle.sbp_world.proofs.Words.Initiator.{PresentList, SlotState, Slot, SlotTable, free_state, is_free, lowest, slot_in, waiting, waits_in, TicketParts, InitiatorState}
+use Rattle.sbp_world.proofs.Words.Laws.{action_notes, append_notes, list_for, new_list, new_number, is_vacant, lowest_vacant, present_list, slot_at, slots, taken_at, IsNextAppend, OrderLaw, appends, lists}
+use Rattle.sbp_world.proofs.Words.World.{AreRows, IfLast, IfList, LastFits, Waits, terms_at, present_in, row, IsAppend}
 use Rattle.orb_list.specs.declared.slot.SlotState.TheVariants as states
-use Rattle.orb_list.specs.declared.slot.Slot.{Slot}
-use Rattle.orb_list.specs.Table.{SlotTable, free_state, is_free, lowest, slot_in, waiting, waits_in}
-use Rattle.orb_list.specs.Tickets.{TicketParts}
 use Rattle.orb_list.proofs.Tied.{waits_last}
-use Rattle.sbp_initiator.specs.declared.state.InitiatorState.{InitiatorState}
-use Rattle.sbp_journal.specs.declared.event.Action.{Action}
 use Rattle.sbp_journal.specs.declared.event.Action.TheVariants as actions
-use Rattle.sbp_journal.specs.declared.event.Cmd.{Cmd}
 use Rattle.sbp_journal.specs.declared.note.Note.TheVariants as notes
-use Rattle.sbp_journal.specs.Run.{Moment, said}
-use Rattle.sbp_laws.specs.Actions.{action_notes, append_notes, list_for, new_list, new_number}
-use Rattle.sbp_laws.specs.Lists.{is_vacant, lowest_vacant, present_list, slot_at, slots, taken_at}
-use Rattle.sbp_laws.specs.OrderLaw.{IsNextAppend, OrderLaw}
-use Rattle.sbp_laws.specs.Terms.{appends, lists}
-use Rattle.sbp_world.specs.Hosts.Fits.{AreRows, IfLast, IfList, LastFits, Waits, terms_at}
-use Rattle.sbp_world.specs.Hosts.Rows.{present_in, row}
 use Rattle.sbp_world.proofs.Hosts.Acts.{Goes}
 use Rattle.sbp_world.proofs.Hosts.Appends.{vacant_row}
 use Rattle.sbp_world.proofs.Hosts.Readings.{read_as}
-use Rattle.sbp_world.specs.Lists.Orders.{IsAppend}
 use Rattle.sbp_world.proofs.Lists.Adds.{AllGood}
 
 -- ---- what the order of the appends says of the lists of an initiator

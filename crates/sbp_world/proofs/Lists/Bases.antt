@@ -1,21 +1,13 @@
 -- In every run an initiator writes and reads at the registers of the agent of its host's login.
-use Rattle.std.proofs.Common.{◌≡◌, refl, sym, ap, subst, is_some, ℕ, true, List, Option, Some, None}
-use Rattle.std.proofs.lemmas.Bool.{false≢true}
-use Rattle.orb_layout.specs.declared.login.LoginResponse.{LoginResponse}
-use Rattle.sbp_journal.specs.Run.{Moment}
-use Rattle.sbp_initiator.specs.declared.state.InitiatorState.{InitiatorState}
+use Rattle.sbp_world.proofs.Words.Std.{◌≡◌, refl, sym, ap, subst, is_some, ℕ, true, List, Option, Some, None, false≢true}
+use Rattle.sbp_world.proofs.Words.Wire.{Moment}
+use Rattle.sbp_world.proofs.Words.Initiator.{LoginResponse, InitiatorState, start, carried, Origin, Seat}
+use Rattle.sbp_world.proofs.Words.Laws.{slot_at}
+use Rattle.sbp_world.proofs.Words.World.{HoldingLaw, HoldsLogin, AreAtAgent, RegistersLaw, is_seated, register_read, pointer_write, register_write, AreBased, BasesLaw}
 use Rattle.bus_memory.specs.declared.window.Window.TheVariants as windows
-use Rattle.bus_memory.specs.Windows.{start}
-use Rattle.sbp_laws.specs.Lists.{slot_at}
-use Rattle.sbp_session.specs.Laws.{carried}
-use Rattle.sbp_session.specs.declared.seat.Origin.{Origin}
 use Rattle.sbp_session.specs.declared.seat.Origin.TheVariants as origins
-use Rattle.sbp_session.specs.declared.seat.Seat.{Seat}
 use Rattle.sbp_session.specs.declared.seat.Seat.TheVariants as seats
-use Rattle.sbp_world.specs.Sessions.Holding.{HoldingLaw, HoldsLogin}
-use Rattle.sbp_world.specs.Pointers.Bases.{AreAtAgent, IsAsked, RegistersLaw, is_seated, register_read}
-use Rattle.sbp_world.specs.Pointers.Moments.{pointer_write, register_write}
-use Rattle.sbp_world.specs.Lists.Bases.{AreBased, BasesLaw}
+use Rattle.sbp_world.specs.Pointers.Bases.{IsAsked}
 
 -- a response that is carried
 record Carries (seat : Seat) : Type 0 where

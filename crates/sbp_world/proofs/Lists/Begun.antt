@@ -1,11 +1,8 @@
 -- In every run the lists of an initiator begin in generations that the target has seen, and a write of ORB_POINTER that waits is for the latest one.
-use Rattle.std.proofs.Common.{ℕ, List}
-use Rattle.sbp_journal.specs.Run.{Moment}
-use Rattle.sbp_laws.specs.Turns.{EachMoment}
-use Rattle.sbp_world.specs.Pointers.Moments.{MayStand}
-use Rattle.sbp_world.specs.Pointers.Pointers.{MomentsLaw, PointersAt, PointersLaw}
-use Rattle.sbp_world.specs.Sessions.Joined.{JoinedLaw}
-use Rattle.sbp_world.specs.Lists.Begun.{AreBegun, BegunLaw}
+use Rattle.sbp_world.proofs.Words.Std.{ℕ, List}
+use Rattle.sbp_world.proofs.Words.Wire.{Moment}
+use Rattle.sbp_world.proofs.Words.Laws.{EachMoment}
+use Rattle.sbp_world.proofs.Words.World.{MayStand, MomentsLaw, PointersAt, PointersLaw, JoinedLaw, AreBegun, BegunLaw}
 use Rattle.sbp_world.proofs.Lists.JoinLaws.{begins_after, begins_between, rises_after, rises_between}
 use Rattle.sbp_world.proofs.Lists.JoinRuns.{begun_low, waits_latest}
 use Rattle.sbp_world.proofs.Lists.Joins.{Begins}

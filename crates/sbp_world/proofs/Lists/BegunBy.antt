@@ -1,12 +1,10 @@
 -- What a label waits for, by the history (IEEE 1394-1995, split transactions): the request that began its transaction, which went from its requester to its responder.
-use Rattle.std.proofs.Common.{arith, ◌≡◌, ◌∙◌, refl, sym, ap, subst, inl, inr, ◌⊎◌, ℕ, Bool, true, false, cond, List, [], ◌∷◌, Option, Some, None}
-use Rattle.bus_transactions.specs.Packets.{SerialsCount}
+use Rattle.sbp_world.proofs.Words.Std.{arith, ◌≡◌, ◌∙◌, refl, sym, ap, subst, inl, inr, ◌⊎◌, ℕ, Bool, true, false, cond, List, [], ◌∷◌, Option, Some, None}
+use Rattle.sbp_world.proofs.Words.Wire.{SerialsCount, Moment, said, Kind, Part, Sending, Transaction, asked_as, asked_by, begun_by, begun_if, between, is_same, part_of, request, response, Held, Terms, begins, free, kind_in, puts, rests, terms, waits}
+use Rattle.sbp_world.proofs.Words.Laws.{closed_by}
 use Rattle.bus_transactions.proofs.PacketParts.{same_is}
-use Rattle.sbp_journal.specs.Run.{Moment, said}
-use Rattle.sbp_journal.specs.Transactions.{Kind, Part, Sending, Transaction, asked_as, asked_by, begun_by, begun_if, between, is_same, no_packet, part_of, request, response}
-use Rattle.sbp_journal.specs.Wire.{Held, Terms, begins, free, kind_in, puts, rests, terms, waits}
+use Rattle.sbp_journal.specs.Transactions.{no_packet}
 use Rattle.sbp_journal.specs.declared.note.Note.TheVariants as notes
-use Rattle.sbp_laws.specs.Packets.{closed_by}
 use Rattle.sbp_world.proofs.Hosts.Remaining.{remains}
 use Rattle.sbp_world.proofs.Hosts.SentMoments.{sending, sent_below, sent_there, serials_from}
 use Rattle.sbp_world.proofs.Lists.FedHeld.{IsNewer, waits_since}

@@ -1,11 +1,8 @@
 -- A list of which an ORB was appended had begun; so where the latest list of a later moment has an ORB before a packet is sent, it is the latest one then.
-use Rattle.std.proofs.Common.{arith, ◌≡◌, refl, sym, subst, ◌<◌, ◌≤◌, ℕ, suc, nat_eq, ◌==◌, Bool, true, false, cond, List, [], ◌∷◌, ◌++◌}
-use Rattle.std.proofs.lemmas.Bool.Decides.{nat_tests}
-use Rattle.sbp_journal.specs.Run.{Moment, asked, said}
+use Rattle.sbp_world.proofs.Words.Std.{arith, ◌≡◌, refl, sym, subst, ◌<◌, ◌≤◌, ℕ, suc, nat_eq, ◌==◌, Bool, true, false, cond, List, [], ◌∷◌, ◌++◌, nat_tests}
+use Rattle.sbp_world.proofs.Words.Wire.{Moment, asked, said}
+use Rattle.sbp_world.proofs.Words.Laws.{before_sent, IsNextAppend, OrderLaw, appends, lists}
 use Rattle.sbp_journal.specs.declared.note.Note.TheVariants as notes
-use Rattle.sbp_laws.specs.CarriedBytes.{before_sent}
-use Rattle.sbp_laws.specs.OrderLaw.{IsNextAppend, OrderLaw}
-use Rattle.sbp_laws.specs.Terms.{appends, lists}
 use Rattle.sbp_world.proofs.Hosts.SentMoments.{sent_begins}
 use Rattle.sbp_world.proofs.Lists.UnrunTerms.{lists_grow}
 

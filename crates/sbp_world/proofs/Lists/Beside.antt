@@ -1,13 +1,9 @@
 -- Where no initiator injected packets, or few logins were given, it was so before; and what is known then of the logins that were done for an initiator that injected none.
-use Rattle.std.proofs.Common.{arith, inl, inr, ℕ, ◌<◌, List, [], ◌++◌}
-use Rattle.rbc_disk.specs.Disk.{Disk}
-use Rattle.sbp_journal.specs.Run.{Moment}
-use Rattle.sbp_laws.specs.Turns.{EachMoment}
-use Rattle.sbp_world.specs.Lists.FewLogins.{FewLogins, IsCalmBeside, IsTameOf, IsTameOrFew}
-use Rattle.sbp_world.specs.Lists.Needs.{IsCalm}
-use Rattle.sbp_world.specs.Lists.OwnLogins.{IsTame}
-use Rattle.sbp_world.specs.Lists.Owners.{OwnedAt}
-use Rattle.sbp_world.specs.Lists.Placings.{BasedAt}
+use Rattle.sbp_world.proofs.Words.Std.{arith, inl, inr, ℕ, ◌<◌, List, [], ◌++◌}
+use Rattle.sbp_world.proofs.Words.Wire.{Moment}
+use Rattle.sbp_world.proofs.Words.Target.{Disk}
+use Rattle.sbp_world.proofs.Words.Laws.{EachMoment}
+use Rattle.sbp_world.proofs.Words.World.{FewLogins, IsCalmBeside, IsTameOf, IsTameOrFew, IsCalm, IsTame, OwnedAt, BasedAt}
 use Rattle.sbp_world.proofs.Lists.Calm.{calm_before}
 use Rattle.sbp_world.proofs.Lists.IdsNoted.{more_entries}
 use Rattle.sbp_world.proofs.Lists.OwnFifos.{tame_before}

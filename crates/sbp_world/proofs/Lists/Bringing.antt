@@ -1,41 +1,15 @@
 -- Where lists are open as they should be, and each read was sent when the ORB of its slot had been appended, the response to a read that an agent has under
 -- way brings what the list holds.
-use Rattle.std.proofs.Common.{arith, ◌≡◌, ◌∙◌, sym, ap, subst, inl, inr, ◌<◌, ◌≤◌, ℕ, suc, Bool, true, false, List, length, Some}
-use Rattle.std.proofs.lemmas.Option.{same_Some}
-use Rattle.async_packet.specs.Labels.{LabelParts}
-use Rattle.async_packet.specs.Packet.{Packet, header_in}
-use Rattle.bus_transactions.specs.Wire.{as_sending}
-use Rattle.command_agent.specs.declared.step.Which.{Which}
-use Rattle.command_agent.specs.Machine.{Machine}
-use Rattle.label_table.specs.Layer.{judging_step, of_response}
-use Rattle.orb_layout.specs.declared.ask.Ask.{Ask}
+use Rattle.sbp_world.proofs.Words.Std.{arith, ◌≡◌, ◌∙◌, sym, ap, subst, inl, inr, ◌<◌, ◌≤◌, ℕ, suc, Bool, true, false, List, length, Some, same_Some}
+use Rattle.sbp_world.proofs.Words.Wire.{LabelParts, Packet, header_in, as_sending, judging_step, of_response, Sent, Access, Moment, Sending, Terms, terms, Cmd}
+use Rattle.sbp_world.proofs.Words.Target.{Which, Machine, Disk, Along, Progress, Brings, which_in, desk_at, answer_in}
+use Rattle.sbp_world.proofs.Words.Initiator.{Ask, Payload}
+use Rattle.sbp_world.proofs.Words.Laws.{fifo_in, command_at, linked, slot_at, agent_at, term_login, over, target_at, ends}
+use Rattle.sbp_world.proofs.Words.World.{holder, WorldState, IsAccessFor, serial_of, IsResponse, orbs, AllBrought, IsCalm, IsFor, IsNamed, OpenLists, initiator_in, is_open_at, machine_at}
 use Rattle.orb_layout.specs.declared.ask.Ask.TheVariants as asks
-use Rattle.orb_layout.specs.Replies.{Payload}
-use Rattle.packet_store.specs.declared.sent.Sent.{Sent}
-use Rattle.rbc_disk.specs.Disk.{Disk}
-use Rattle.agent_laws.specs.Along.Along.{Along, Progress}
-use Rattle.agent_laws.specs.Along.Steps.{Brings}
-use Rattle.sbp_journal.specs.Addresses.{Access}
-use Rattle.sbp_journal.specs.Run.{Moment}
-use Rattle.sbp_journal.specs.Transactions.{Sending}
-use Rattle.sbp_journal.specs.Wire.{Terms, terms}
-use Rattle.sbp_journal.specs.declared.event.Cmd.{Cmd}
-use Rattle.sbp_laws.specs.Agents.{fifo_in}
-use Rattle.sbp_laws.specs.Lists.{command_at, linked, slot_at}
-use Rattle.sbp_laws.specs.Targets.{agent_at, login_at as term_login, over, target_at}
-use Rattle.sbp_laws.specs.Terms.{ends}
 use Rattle.sbp_target.specs.declared.purpose.Purpose.TheVariants as purposes
-use Rattle.sbp_target.specs.Desks.{which_in}
-use Rattle.sbp_target.specs.Nodes.{desk_at}
-use Rattle.sbp_target.specs.Receiving.{answer_in}
-use Rattle.sbp_world.specs.Telling.{holder}
-use Rattle.sbp_world.specs.Worlds.{WorldState}
 use Rattle.sbp_world.proofs.Agents.Management.Holding.{Holding, was_sent}
 use Rattle.sbp_world.proofs.Agents.Management.Still.{hist}
-use Rattle.sbp_world.specs.Agents.AskedRuns.{IsAccessFor, serial_of}
-use Rattle.sbp_world.specs.Hosts.Carrying.{IsResponse}
-use Rattle.sbp_world.specs.Lists.Lists.{orbs}
-use Rattle.sbp_world.specs.Lists.Needs.{AllBrought, IsCalm, IsFor, IsNamed, OpenLists, initiator_in, is_open_at, machine_at}
 use Rattle.sbp_world.proofs.Lists.Brought.{Comes, number_of}
 use Rattle.sbp_world.proofs.Lists.Early.{Early}
 use Rattle.sbp_world.proofs.Lists.Heard.{answers, request_to, tells, waiting, waits_so}

@@ -1,43 +1,17 @@
 -- What the answer to a read of an agent along a list brings, where its bytes are those of the ORB of the number that the agent reads.
-use Rattle.std.proofs.Common.{arith, ◌≡◌, ◌∙◌, refl, sym, ap, subst, inl, inr, ◌⊎◌, ◌<◌, ◌==◌, ℕ, zero, suc, ◌+◌, ◌-◌, ◌*◌, nat_lt, min, Bool, true, false, cond, List, [], ◌∷◌, ◌++◌, length, take, drop, take-take, ◌&&◌, not, Option, Some, None, IfSome, Result, Ok, Err, append-nil}
-use Rattle.std.proofs.lemmas.Bool.Decides.{nat_tests}
+use Rattle.sbp_world.proofs.Words.Std.{arith, ◌≡◌, ◌∙◌, refl, sym, ap, subst, inl, inr, ◌⊎◌, ◌<◌, ◌==◌, ℕ, zero, suc, ◌+◌, ◌-◌, ◌*◌, nat_lt, min, Bool, true, false, cond, List, [], ◌∷◌, ◌++◌, length, take, drop, take-take, ◌&&◌, not, Option, Some, None, IfSome, Result, Ok, Err, nat_tests}
+use Rattle.sbp_world.proofs.Words.Wire.{Access, Moment, Cmd}
+use Rattle.sbp_world.proofs.Words.Target.{Phase, ReadAhead, Which, Main, Ahead, reads_table, Machine, aligned, chunk_of, cut_to, is_ahead, limit_of, Filling, Knows, KnowsAhead, Progress, ReadsAhead, Tabling, AtEnd, IsGood, Leads, OrbList, ahead_ask, main_ask, AheadBrings, BringsOrb, MainBrings, number_behind}
+use Rattle.sbp_world.proofs.Words.Initiator.{start, FailCause, CommandOrb, OrbPointer, Null, At, command_orb, pointer_at, Answer, Done, Expired, NoLabel, Payload, Refused, payload_of, data_size, data_start, has_table, Chunk, Segment, addresses, buffer_addresses, chunk_from, elements_of}
+use Rattle.sbp_world.proofs.Words.Laws.{IsRead, address_of, laid_out, command_at, slot_at}
+use Rattle.sbp_world.proofs.Words.World.{IsAccessFor, read_access, Follows, HoldsTable, IsOfOrb, IsBytesOf, LeadsOn, orb_for, IsBufferOf, IsDataIn, IsOrbOf, orbs}
+use Rattle.std.proofs.Common.{append-nil}
 use Rattle.bus_memory.specs.declared.window.Window.TheVariants as windows
-use Rattle.bus_memory.specs.Windows.{start}
-use Rattle.command_agent.specs.declared.phase.Phase.{Phase}
 use Rattle.command_agent.specs.declared.phase.Phase.TheVariants as phases
-use Rattle.command_agent.specs.declared.phase.ReadAhead.{ReadAhead}
 use Rattle.command_agent.specs.declared.phase.ReadAhead.TheVariants as aheads
-use Rattle.command_agent.specs.declared.step.Which.{Which}
-use Rattle.command_agent.specs.declared.step.Which.TheVariants.{Main, Ahead}
-use Rattle.command_agent.specs.Checks.{reads_table}
-use Rattle.command_agent.specs.Machine.{Machine, aligned, chunk_of, cut_to, is_ahead, limit_of}
-use Rattle.orb_layout.specs.declared.ask.FailCause.{FailCause}
 use Rattle.orb_layout.specs.declared.ask.FailCause.TheVariants as causes
-use Rattle.orb_layout.specs.declared.command.CommandOrb.{CommandOrb}
-use Rattle.orb_layout.specs.declared.pointer.OrbPointer.{OrbPointer}
-use Rattle.orb_layout.specs.declared.pointer.OrbPointer.TheVariants.{Null, At}
-use Rattle.orb_layout.specs.CommandOrbs.{command_orb}
-use Rattle.orb_layout.specs.Pointers.{pointer_at}
-use Rattle.orb_layout.specs.Replies.{Answer, Done, Expired, NoLabel, Payload, Refused, payload_of}
-use Rattle.orb_list.specs.Layout.{data_size, data_start, has_table}
-use Rattle.page_table.specs.declared.segment.Chunk.{Chunk}
-use Rattle.page_table.specs.declared.segment.Segment.{Segment}
-use Rattle.page_table.specs.Buffer.{addresses, buffer_addresses, chunk_from}
-use Rattle.page_table.specs.Elements.{elements_of}
 use Rattle.page_table.proofs.Places.{chunk_in_place}
-use Rattle.agent_laws.specs.Along.Along.{Filling, Knows, KnowsAhead, Progress, ReadsAhead, Tabling, AtEnd}
-use Rattle.agent_laws.specs.Along.Lists.{IsGood, Leads, OrbList}
-use Rattle.agent_laws.specs.Along.Requests.{ahead_ask, main_ask}
-use Rattle.agent_laws.specs.Along.Steps.{AheadBrings, BringsOrb, MainBrings, number_behind}
-use Rattle.sbp_journal.specs.Addresses.{Access}
-use Rattle.sbp_journal.specs.Run.{Moment}
-use Rattle.sbp_journal.specs.declared.event.Cmd.{Cmd}
-use Rattle.sbp_laws.specs.CarriedBytes.{IsRead, address_of, laid_out}
-use Rattle.sbp_laws.specs.Lists.{command_at, slot_at}
-use Rattle.sbp_world.specs.Agents.AskedRuns.{IsAccessFor, read_access}
-use Rattle.sbp_world.specs.Hosts.Carrying.{Follows, HoldsTable, IsOfOrb, IsOrbOf as IsBytesOf, LeadsOn}
-use Rattle.sbp_world.specs.Hosts.Orbs.{orb_for}
-use Rattle.sbp_world.specs.Lists.Lists.{IsBufferOf, IsDataIn, IsDataOf, IsOrbOf, orbs}
+use Rattle.sbp_world.specs.Lists.Lists.{IsDataOf}
 use Rattle.sbp_world.proofs.Common.{no_bytes}
 
 -- ---- an answer that brings bytes

@@ -1,29 +1,16 @@
 -- Where no initiator injected packets, or few logins were given, and each status of a login that was told well has its response in the buffer, no FIFO of a live login of an
 -- initiator that injected none, or of its management ORB, is in a response buffer; so what the target writes there are the responses of its operations.
-use Rattle.std.proofs.Common.{arith, ◌≡◌, ◌∙◌, refl, sym, ap, subst, ℕ, zero, suc, ◌+◌, ◌*◌, ◌^◌, ◌<◌, List, [], length, Some, None}
-use Rattle.bus_memory.specs.Windows.{window_at}
+use Rattle.sbp_world.proofs.Words.Std.{arith, ◌≡◌, ◌∙◌, refl, sym, ap, subst, ℕ, zero, suc, ◌+◌, ◌*◌, ◌^◌, ◌<◌, List, [], length, Some, None}
+use Rattle.sbp_world.proofs.Words.Wire.{node_of, topology_at, Moment}
+use Rattle.sbp_world.proofs.Words.Target.{Operation, Disk, answer_in}
+use Rattle.sbp_world.proofs.Words.Initiator.{window_at, management_orb}
+use Rattle.sbp_world.proofs.Words.Laws.{EachMoment}
+use Rattle.sbp_world.proofs.Words.World.{history_of, moments_behind, new_world, ready_logins, Run, after, beginning, WorldState, AreBuffersClear, AreFifosClear, IsClearFifo, IsCalm, GoodIn, IsItsFifo, IsTame, of_login, of_place, BasedAt, BufferSo, AreShort}
 use Rattle.bus_memory.specs.declared.window.Window.TheVariants as windows
-use Rattle.mgmt_agent.specs.declared.operation.Operation.{Operation}
 use Rattle.mgmt_agent.specs.declared.operation.Phase.{Phase}
-use Rattle.orb_layout.specs.ManagementOrbs.{management_orb}
-use Rattle.rbc_disk.specs.Disk.{Disk}
-use Rattle.sbp_bus.specs.Generations.{node_of, topology_at}
-use Rattle.sbp_journal.specs.Run.{Moment}
-use Rattle.sbp_laws.specs.Turns.{EachMoment}
-use Rattle.sbp_target.specs.Receiving.{answer_in}
-use Rattle.sbp_world.specs.Histories.{history_of, moments_behind}
-use Rattle.sbp_world.specs.Making.{new_world, ready_logins}
-use Rattle.sbp_world.specs.Runs.{Run, after, beginning}
-use Rattle.sbp_world.specs.Worlds.{WorldState}
 use Rattle.sbp_world.proofs.Wire.Bus.{node_has}
 use Rattle.sbp_world.proofs.Agents.Management.Holding.{Holding}
 use Rattle.sbp_world.proofs.Agents.Management.Still.{hist}
-use Rattle.sbp_world.specs.Lists.Buffers.{AreBuffersClear, AreFifosClear, IsClearFifo}
-use Rattle.sbp_world.specs.Lists.Needs.{IsCalm}
-use Rattle.sbp_world.specs.Lists.OwnLogins.{GoodIn, IsItsFifo, IsTame, of_login, of_place}
-use Rattle.sbp_world.specs.Lists.Placings.{BasedAt}
-use Rattle.sbp_world.specs.Lists.Responding.{BufferSo}
-use Rattle.sbp_world.specs.Lists.Shorts.{AreShort}
 use Rattle.sbp_world.proofs.Lists.Courses.{EveryPlace, Keeps, at_between, at_lines}
 use Rattle.sbp_world.proofs.Lists.FifoProved.{IsClosed, buffers_everywhere}
 use Rattle.sbp_world.proofs.Lists.KeptTurns.{id_is, operation_is}

@@ -1,27 +1,13 @@
 -- A turn that is none of the target, and in which the response buffers of an initiator change: it got a response of the target that waited for it.
-use Rattle.std.proofs.Common.{arith, ◌≡◌, ◌∙◌, refl, sym, ap, subst, ℕ, zero, suc, ◌+◌, ◌≤◌, nat_eq, Bool, true, false, cond, List, [], ◌∷◌, ◌++◌, Option, Some, None, Result, Ok, Err, append_assoc}
-use Rattle.std.proofs.lemmas.Bool.Decides.{nat_tests}
-use Rattle.async_packet.specs.declared.fault.PacketFault.{PacketFault}
-use Rattle.async_packet.specs.Packet.{Packet}
-use Rattle.async_packet.specs.Reading.{reading}
-use Rattle.bus_transactions.specs.Judging.{AreJudged}
-use Rattle.bus_transactions.specs.Packets.{SerialsCount}
-use Rattle.sbp_world.specs.Hosts.Sources.{AllOfTarget}
+use Rattle.sbp_world.proofs.Words.Std.{arith, ◌≡◌, ◌∙◌, refl, sym, ap, subst, ℕ, zero, suc, ◌+◌, ◌≤◌, nat_eq, Bool, true, false, cond, List, [], ◌∷◌, ◌++◌, Option, Some, None, Result, Ok, Err, append_assoc, nat_tests}
+use Rattle.sbp_world.proofs.Words.Wire.{PacketFault, Packet, reading, AreJudged, SerialsCount, Access, access_of, Moment, asked, said, Sending, terms}
+use Rattle.sbp_world.proofs.Words.Target.{Disk}
+use Rattle.sbp_world.proofs.Words.Laws.{access_in, access_in_bytes, packet_in, receiver_in, spelled_by, target_at, EachMoment}
+use Rattle.sbp_world.proofs.Words.World.{AllOfTarget, IsOfWire, is_its_packet, managed_for, operation_if, BufferSo, IsReplying, IsResponseOf}
 use Rattle.sbp_world.proofs.Hosts.Remaining.{remains, serials_behind}
 use Rattle.sbp_world.proofs.Hosts.SentMoments.{WasSent, count_now, sent_below, sent_moment, serials_from}
-use Rattle.rbc_disk.specs.Disk.{Disk}
-use Rattle.sbp_journal.specs.Addresses.{Access, access_of}
-use Rattle.sbp_journal.specs.Run.{Moment, asked, said}
-use Rattle.sbp_journal.specs.Transactions.{Sending}
-use Rattle.sbp_journal.specs.Wire.{terms}
 use Rattle.sbp_journal.specs.declared.note.Note.TheVariants as notes
 use Rattle.sbp_laws.specs.Hosts.{is_serial}
-use Rattle.sbp_laws.specs.Packets.{access_in, access_in_bytes, packet_in, receiver_in, spelled_by}
-use Rattle.sbp_laws.specs.Targets.{target_at}
-use Rattle.sbp_laws.specs.Turns.{EachMoment}
-use Rattle.sbp_world.specs.Wire.History.{IsOfWire}
-use Rattle.sbp_world.specs.Lists.ManagedFor.{is_its_packet, managed_for, operation_if}
-use Rattle.sbp_world.specs.Lists.Responding.{BufferSo, IsReplying, IsResponseOf}
 use Rattle.sbp_world.proofs.Lists.BufferStores.{IsStoring}
 use Rattle.sbp_world.proofs.Lists.Calm.{injects_before}
 use Rattle.sbp_world.proofs.Lists.ManageGot.{IsWriting, writing_in}

@@ -1,27 +1,16 @@
 -- What changes the response buffers of an initiator by a history: a write into one that it gets, and nothing else.
-use Rattle.std.proofs.Common.{◌≡◌, ◌⊎◌, inl, inr, refl, sym, subst, ℕ, zero, suc, ◌&&◌, not, nat_eq, Bool, true, false, cond, List, ◌∷◌, Option, Some, None}
-use Rattle.bus_memory.specs.declared.window.Window.{Window}
+use Rattle.sbp_world.proofs.Words.Std.{◌≡◌, ◌⊎◌, inl, inr, refl, sym, subst, ℕ, zero, suc, ◌&&◌, not, nat_eq, Bool, true, false, cond, List, ◌∷◌, Option, Some, None}
+use Rattle.sbp_world.proofs.Words.Wire.{Access, Moment, said, Part, part_of, request, response, Terms, terms, Action, Event, Note, Operation, OpWord}
+use Rattle.sbp_world.proofs.Words.Initiator.{Window, window_at, Answer, Done, Expired, NoLabel, Payload, Refused}
+use Rattle.sbp_world.proofs.Words.Laws.{Host, Underway, acted, goes_on, host_at, host_by, list_begins, op_ended, operation_of, pointer_answered, ring, sent_in, stored, stored_in, present_list, access_at, answer_in, answered_at, packet_at, receiver_in, sender_in, event_of}
 use Rattle.bus_memory.specs.declared.window.Window.TheVariants as windows
-use Rattle.bus_memory.specs.Windows.{window_at}
-use Rattle.orb_layout.specs.Replies.{Answer, Done, Expired, NoLabel, Payload, Refused}
-use Rattle.sbp_journal.specs.Addresses.{Access}
-use Rattle.sbp_journal.specs.Run.{Moment, said}
-use Rattle.sbp_journal.specs.Transactions.{Part, no_packet, part_of, request, response}
-use Rattle.sbp_journal.specs.Wire.{Terms, terms}
-use Rattle.sbp_journal.specs.declared.event.Action.{Action}
+use Rattle.sbp_journal.specs.Transactions.{no_packet}
 use Rattle.sbp_journal.specs.declared.event.Action.TheVariants as actions
-use Rattle.sbp_journal.specs.declared.event.Event.{Event}
 use Rattle.sbp_journal.specs.declared.event.Event.TheVariants as events
-use Rattle.sbp_journal.specs.declared.note.Note.{Note}
 use Rattle.sbp_journal.specs.declared.note.Note.TheVariants as notes
-use Rattle.sbp_journal.specs.declared.operation.Operation.{Operation}
 use Rattle.sbp_journal.specs.declared.operation.Operation.TheVariants as operations
-use Rattle.sbp_journal.specs.declared.operation.OpWord.{OpWord}
 use Rattle.sbp_journal.specs.declared.operation.OpWord.TheVariants as words
-use Rattle.sbp_laws.specs.Hosts.{Host, Underway, acted, goes_on, got_by, host_at, host_by, is_serial, list_begins, op_ended, operation_of, pointer_answered, reset_seen, ring, sent_as, sent_in, stored, stored_in}
-use Rattle.sbp_laws.specs.Lists.{present_list}
-use Rattle.sbp_laws.specs.Packets.{access_at, answer_in, answered_at, packet_at, receiver_in, sender_in}
-use Rattle.sbp_laws.specs.Turns.{event_of}
+use Rattle.sbp_laws.specs.Hosts.{got_by, is_serial, reset_seen, sent_as}
 use Rattle.sbp_world.proofs.Hosts.Cores.{wire_is}
 
 -- ---- one note

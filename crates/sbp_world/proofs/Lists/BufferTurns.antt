@@ -1,34 +1,16 @@
 -- While a status block waits for an initiator, or the target writes one, a turn that is none of the target leaves the initiator's response buffers.
-use Rattle.std.proofs.Common.{arith, ◌≡◌, ◌∙◌, ◌⊎◌, inl, inr, refl, sym, ap, subst, ℕ, suc, ◌<◌, true, false, List, [], ◌∷◌, ◌++◌, map, length, Some, append_assoc}
-use Rattle.std.specs.Prelude.{slice_index_or}
-use Rattle.bus_transactions.specs.Wire.{as_sending}
-use Rattle.sbp_world.specs.Hosts.Runs.{more_deliveries}
-use Rattle.sbp_world.specs.Hosts.Sources.{AllOfTarget}
-use Rattle.mgmt_agent.specs.declared.operation.Operation.{Operation}
+use Rattle.sbp_world.proofs.Words.Std.{arith, ◌≡◌, ◌∙◌, ◌⊎◌, inl, inr, refl, sym, ap, subst, ℕ, suc, ◌<◌, true, false, List, [], ◌∷◌, ◌++◌, map, length, Some, append_assoc, slice_index_or}
+use Rattle.sbp_world.proofs.Words.Wire.{as_sending, Kept, Moment, asked, said, terms, Note}
+use Rattle.sbp_world.proofs.Words.Target.{Operation, Disk}
+use Rattle.sbp_world.proofs.Words.Initiator.{Running, InitiatorState, response_of, place_in}
+use Rattle.sbp_world.proofs.Words.Laws.{host_at, known_host, id_for, target_at, EachMoment}
+use Rattle.sbp_world.proofs.Words.World.{more_deliveries, AllOfTarget, Scene, WorldState, Stands, HoldsLogin, IsTelling, AreReplied, BufferSo, IsReplying, is_responding}
 use Rattle.mgmt_agent.specs.declared.operation.Phase.TheVariants as phases
-use Rattle.packet_store.specs.declared.sent.Kept.{Kept}
-use Rattle.rbc_disk.specs.Disk.{Disk}
-use Rattle.sbp_initiator.specs.declared.purpose.Running.{Running}
-use Rattle.sbp_initiator.specs.declared.state.InitiatorState.{InitiatorState}
-use Rattle.sbp_initiator.specs.Effects.{response_of}
-use Rattle.sbp_initiator.specs.States.{place_in}
-use Rattle.sbp_journal.specs.Run.{Moment, asked, said}
-use Rattle.sbp_journal.specs.Wire.{terms}
-use Rattle.sbp_journal.specs.declared.note.Note.{Note}
 use Rattle.sbp_journal.specs.declared.note.Note.TheVariants as notes
-use Rattle.sbp_laws.specs.Hosts.{host_at, known_host}
-use Rattle.sbp_laws.specs.Packets.{id_for}
-use Rattle.sbp_laws.specs.Targets.{target_at}
-use Rattle.sbp_laws.specs.Turns.{EachMoment}
-use Rattle.sbp_world.specs.Worlds.{Scene, WorldState}
-use Rattle.sbp_world.specs.Wire.Wires.{Stands}
 use Rattle.sbp_world.proofs.Wire.Starts.{laws_of}
 use Rattle.sbp_world.proofs.Agents.Management.Holding.{Holding, was_sent}
 use Rattle.sbp_world.proofs.Agents.Management.Still.{hist}
-use Rattle.sbp_world.specs.Sessions.Holding.{HoldsLogin}
 use Rattle.sbp_world.proofs.Sessions.Turns.{wire_generation}
-use Rattle.sbp_world.specs.Lists.Managing.{IsTelling}
-use Rattle.sbp_world.specs.Lists.Responding.{AreReplied, BufferSo, IsReplying, is_responding}
 use Rattle.sbp_world.proofs.Lists.BufferGets.{replying}
 use Rattle.sbp_world.proofs.Lists.BufferStores.{IsOther, IsStoring, Stores, got_stores, note_same, nothing, stores}
 use Rattle.sbp_world.proofs.Lists.Courses.{Goes, by_delivery, by_end, by_line, by_start}

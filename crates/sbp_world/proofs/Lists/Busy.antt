@@ -1,35 +1,16 @@
 -- An agent that has an ORB which has not ended has it still behind a step, or the step ends it. One that has a list open, and no such ORB, is on a list of
 -- which some ended.
-use Rattle.std.proofs.Common.{◌≡◌, refl, sym, inl, inr, ◌⊎◌, arith, ◌==◌, ◌+◌, ◌*◌, ℕ, is_some, Bool, true, false, cond, List, ◌++◌, length, Option, Some, None, Result, Ok, Err}
-use Rattle.std.proofs.lemmas.Bool.{false≢true}
-use Rattle.orb_layout.specs.declared.ask.FailCause.{FailCause}
+use Rattle.sbp_world.proofs.Words.Std.{◌≡◌, refl, sym, inl, inr, ◌⊎◌, arith, ◌==◌, ◌+◌, ◌*◌, ℕ, is_some, Bool, true, false, cond, List, ◌++◌, length, Option, Some, None, Result, Ok, Err, false≢true}
+use Rattle.sbp_world.proofs.Words.Target.{Need, Outcome, Told, need_of, PlainDisk, Phase, AgentStep, Move, Which, Main, Ahead, death_by, reads_table, verdict, Machine, chunk_of, is_ahead, plan_of, advanced, ahead_lost, ahead_of, ahead_read, ahead_step, answer_chunk, check_step, checked, chunk_written, data_grown, data_read, data_step, elements_read, end_step, judge_step, judged, lost_step, main_lost, orb_read, passed_step, quiet, ran_as, reply_step, run_step, sent, served, table_read, told_or, unread_buffer, with_outcome, Along, Knows, Progress, OrbList}
+use Rattle.sbp_world.proofs.Words.Initiator.{FailCause, OrbPointer, Null, At, StatusKind, Answer, payload_of, write_failure, PageFault, elements_of, first_fault}
+use Rattle.sbp_world.proofs.Words.World.{has_list}
 use Rattle.orb_layout.specs.declared.ask.FailCause.TheVariants as causes
-use Rattle.orb_layout.specs.declared.pointer.OrbPointer.{OrbPointer}
-use Rattle.orb_layout.specs.declared.pointer.OrbPointer.TheVariants.{Null, At}
-use Rattle.orb_layout.specs.declared.status.StatusKind.{StatusKind}
 use Rattle.orb_layout.specs.declared.status.StatusKind.TheVariants as kinds
-use Rattle.orb_layout.specs.Replies.{Answer, payload_of, write_failure}
-use Rattle.page_table.specs.declared.fault.PageFault.{PageFault}
-use Rattle.page_table.specs.Elements.{elements_of, first_fault}
-use Rattle.rbc_disk.specs.declared.command.Need.{Need}
 use Rattle.rbc_disk.specs.declared.command.Need.TheVariants as needs
-use Rattle.rbc_disk.specs.declared.command.Outcome.{Outcome}
 use Rattle.rbc_disk.specs.declared.command.Outcome.TheVariants as outcomes
-use Rattle.rbc_disk.specs.Runs.{Told, need_of}
-use Rattle.rbc_disk.specs.Units.{PlainDisk}
-use Rattle.command_agent.specs.declared.phase.Phase.{Phase}
 use Rattle.command_agent.specs.declared.phase.Phase.TheVariants as phases
-use Rattle.command_agent.specs.declared.step.AgentStep.{AgentStep}
-use Rattle.command_agent.specs.declared.step.Move.{Move}
 use Rattle.command_agent.specs.declared.step.Move.TheVariants as moves
-use Rattle.command_agent.specs.declared.step.Which.{Which}
-use Rattle.command_agent.specs.declared.step.Which.TheVariants.{Main, Ahead}
-use Rattle.command_agent.specs.Checks.{death_by, reads_table, verdict}
-use Rattle.command_agent.specs.Machine.{Machine, chunk_of, is_ahead, plan_of}
-use Rattle.command_agent.specs.Steps.{advanced, ahead_lost, ahead_of, ahead_read, ahead_step, answer_chunk, answer_step, check_step, checked, chunk_written, data_grown, data_read, data_step, elements_read, end_step, judge_step, judged, lost_step, main_lost, orb_read, passed_step, quiet, ran_as, reply_step, run_step, sent, served, table_read, told_or, unread_buffer, with_outcome}
-use Rattle.agent_laws.specs.Along.Along.{Along, Knows, Progress}
-use Rattle.agent_laws.specs.Along.Lists.{OrbList}
-use Rattle.sbp_world.specs.Agents.Alike.{has_list}
+use Rattle.command_agent.specs.Steps.{answer_step}
 
 -- an ORB is read, reads its data or is answered: it has not ended
 abbrev pub is_busy : Phase → Bool

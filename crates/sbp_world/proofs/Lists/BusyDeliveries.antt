@@ -1,57 +1,26 @@
 -- A packet that the target gets, and a time-out: each agent stays in its phase or is cut; or the agent of one place makes a step, or is pointed to an ORB.
-use Rattle.std.proofs.Common.{◌≡◌, refl, sym, ap, subst, inl, ◌<◌, ℕ, Bool, true, false, cond, List, [], length, Option, Some, None, Result, Ok, Err}
-use Rattle.std.proofs.lemmas.Bool.{false≢true}
-use Rattle.async_packet.specs.Labels.{LabelParts}
-use Rattle.async_packet.specs.Packet.{Packet, header_in}
-use Rattle.label_table.specs.Layer.{Finding, Layer, judging_step, of_again, of_generation, of_grammar, of_label, of_request, of_response}
-use Rattle.login_table.specs.declared.login.Login.{Login}
-use Rattle.orb_layout.specs.declared.ask.Ask.{Ask}
-use Rattle.orb_layout.specs.declared.pointer.OrbPointer.{OrbPointer}
-use Rattle.orb_layout.specs.Replies.{Expired}
-use Rattle.packet_store.specs.declared.sent.Sent.{Sent}
-use Rattle.rbc_disk.specs.Held.{Held}
-use Rattle.rbc_disk.specs.Runs.{Told}
-use Rattle.command_agent.specs.declared.step.PointRefusal.{PointRefusal}
-use Rattle.command_agent.specs.declared.step.Which.{Which}
-use Rattle.command_agent.specs.Steps.{point_step, reply_step}
+use Rattle.sbp_world.proofs.Words.Std.{◌≡◌, refl, sym, ap, subst, inl, ◌<◌, ℕ, Bool, true, false, cond, List, [], length, Option, Some, None, Result, Ok, Err, false≢true}
+use Rattle.sbp_world.proofs.Words.Wire.{LabelParts, Packet, header_in, Finding, Layer, judging_step, of_again, of_generation, of_grammar, of_label, of_request, of_response, Sent, Judged, empty_outbox}
+use Rattle.sbp_world.proofs.Words.Target.{Login, Held, Told, PointRefusal, Which, point_step, reply_step, address_error, complete, demand_of, Access, Demand, Purpose, cut, which_in, Scene, desk_at, login_at, scene, answer_in, concluded, expire_agent, expired_by, judged_scene, received, received_as, settled, timed_out, Whole, replied_by, replied_to, served_login, whole, plain_in, accessed_by, answered, enabled, is_barred, point, serve, served_as, Machine, is_ahead, is_sent, Ahead, Main, is_that, pointed_desk, with_desk, pointed_by, rcode_of, ring, seen, ticked}
+use Rattle.sbp_world.proofs.Words.Initiator.{Ask, OrbPointer, Expired}
+use Rattle.sbp_world.proofs.Words.World.{whole_of, WorldState, has_list}
 use Rattle.sbp_journal.specs.declared.cause.CutCause.TheVariants as cuts
 use Rattle.sbp_journal.specs.declared.cause.Cause.TheVariants as ignored
-use Rattle.sbp_journal.specs.declared.cause.Judged.{Judged}
 use Rattle.sbp_journal.specs.declared.cause.Judged.TheVariants as judgements
-use Rattle.sbp_journal.specs.Outgoings.{empty_outbox}
-use Rattle.target_base.specs.Addresses.{address_error, complete, demand_of}
-use Rattle.target_base.specs.declared.address.Access.{Access}
 use Rattle.target_base.specs.declared.address.Access.TheVariants as accesses
-use Rattle.target_base.specs.declared.address.Demand.{Demand}
 use Rattle.target_base.specs.declared.address.Demand.TheVariants as demands
-use Rattle.sbp_target.specs.declared.purpose.Purpose.{Purpose}
 use Rattle.sbp_target.specs.declared.purpose.Purpose.TheVariants as purposes
-use Rattle.sbp_target.specs.Agents.{cut}
-use Rattle.sbp_target.specs.Desks.{which_in}
-use Rattle.sbp_target.specs.Nodes.{Scene, desk_at, login_at, scene}
-use Rattle.sbp_target.specs.Receiving.{answer_in, concluded, expire_agent, expired_by, judged_scene, received, received_as, settled, timed_out}
-use Rattle.sbp_target.specs.Replies.{Whole, replied_by, replied_to, served_login, whole, plain_in}
-use Rattle.sbp_target.specs.Serving.{accessed_by, answered, enabled, is_barred, point, request_step, serve, served_as}
-use Rattle.sbp_world.specs.Delivering.{whole_of}
-use Rattle.sbp_world.specs.Worlds.{WorldState}
+use Rattle.sbp_target.specs.Serving.{request_step}
 use Rattle.sbp_target.proofs.Histories.Calling.{Good}
 use Rattle.sbp_target.proofs.Histories.Settled.{reaches}
-use Rattle.command_agent.specs.Machine.{Machine, is_ahead, is_sent}
-use Rattle.command_agent.specs.declared.step.Which.TheVariants.{Ahead, Main}
 use Rattle.command_agent.specs.declared.phase.Phase.TheVariants as phases
-use Rattle.sbp_target.specs.Desks.{is_that, pointed_desk}
 use Rattle.sbp_target.proofs.Histories.Calling.{not_eight}
-use Rattle.sbp_world.specs.Agents.Alike.{has_list}
 use Rattle.sbp_world.proofs.Agents.AskedLate.{ahead_of, main_of}
-use Rattle.sbp_target.specs.Nodes.{with_desk}
-use Rattle.sbp_target.specs.Serving.{pointed_by, rcode_of}
 use Rattle.sbp_world.proofs.Lists.BusyCuts.{Cutting, First, answers, cuts_one, desk_more, manages, same_desks, sees, starts, ticks}
 use Rattle.sbp_world.proofs.Lists.BusyFollows.{Acts}
 use Rattle.sbp_world.proofs.Lists.BusyTurns.{M, first, late_acts, reply_acts, rung_acts, silent_rests, taken_acts, there}
 use Rattle.sbp_world.proofs.Lists.OpenTurns.{AreSeated, waits_place, ahead_lists}
 use Rattle.sbp_world.proofs.Lists.Busy.{is_busy}
-use Rattle.sbp_target.specs.Serving.{ring}
-use Rattle.sbp_target.specs.Receiving.{seen, ticked}
 use Rattle.sbp_world.proofs.Lists.Full.{IsClosed}
 use Rattle.sbp_world.proofs.Lists.Pointers.{refused}
 use Rattle.sbp_world.proofs.Lists.StatusLosses.{sent_has}

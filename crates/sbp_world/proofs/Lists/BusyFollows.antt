@@ -1,27 +1,11 @@
 -- What follows a step of the agent of a place, which has an ORB that has not ended: it has it still, or an end of it is told; and nothing is told but of runs,
 -- ends and deaths of that place, and of unsolicited statuses.
-use Rattle.std.proofs.Common.{◌≡◌, ◌∙◌, refl, sym, ap, subst, inl, inr, ◌⊎◌, ◌<◌, ◌≤◌, ℕ, ◌+◌, is_some, Bool, true, false, cond, List, [], ◌∷◌, ◌++◌, length, Option, Some, None, arith}
-use Rattle.std.proofs.Math.ListN.{length-set}
-use Rattle.login_table.specs.declared.login.Login.{Login}
-use Rattle.orb_layout.specs.declared.ask.Ask.{Ask}
-use Rattle.orb_layout.specs.declared.ask.FailCause.{FailCause}
+use Rattle.sbp_world.proofs.Words.Std.{◌≡◌, ◌∙◌, refl, sym, ap, subst, inl, inr, ◌⊎◌, ◌<◌, ◌≤◌, ℕ, ◌+◌, is_some, Bool, true, false, cond, List, [], ◌∷◌, ◌++◌, length, Option, Some, None, arith, length-set}
+use Rattle.sbp_world.proofs.Words.Wire.{OutboxState, Side}
+use Rattle.sbp_world.proofs.Words.Target.{Login, Outcome, AgentStep, Which, Machine, lost_step, Desk, follow, noted, lost_at, Scene, desk_at, scene, with_agent, with_side, orb_of, tell_dead, tell_ended, tell_ran, tell_step, announce_from}
+use Rattle.sbp_world.proofs.Words.Initiator.{Ask, FailCause, StatusKind}
 use Rattle.orb_layout.specs.declared.ask.FailCause.TheVariants as causes
-use Rattle.orb_layout.specs.declared.status.StatusKind.{StatusKind}
-use Rattle.rbc_disk.specs.declared.command.Outcome.{Outcome}
-use Rattle.command_agent.specs.declared.step.AgentStep.{AgentStep}
-use Rattle.command_agent.specs.declared.step.Which.{Which}
-use Rattle.command_agent.specs.Machine.{Machine}
-use Rattle.command_agent.specs.Steps.{lost_step}
-use Rattle.sbp_journal.specs.Outgoings.{OutboxState}
-use Rattle.sbp_journal.specs.declared.side.Side.{Side}
 use Rattle.sbp_journal.specs.declared.side.Side.TheVariants as sides
-use Rattle.sbp_target.specs.declared.desk.Desk.{Desk}
-use Rattle.sbp_target.specs.Agents.{follow, noted}
-use Rattle.sbp_target.specs.Histories.Moves.{lost_at}
-use Rattle.sbp_target.specs.Nodes.{Scene, desk_at, scene, with_agent}
-use Rattle.sbp_target.specs.Sending.{with_side}
-use Rattle.sbp_target.specs.Telling.{orb_of, tell_dead, tell_ended, tell_ran, tell_step}
-use Rattle.sbp_target.specs.Units.{announce_from}
 use Rattle.sbp_world.proofs.Lists.SameAgents.{AreSame, announce_alike, follow_alike, noted_same, set_here, set_there}
 use Rattle.sbp_world.proofs.Lists.Busy.{is_busy, lost_busy}
 use Rattle.command_agent.specs.Steps as steps

@@ -1,15 +1,9 @@
 -- What is told of the steps of the agent of a place, by the history: the ORBs of other initiators ran as often as before, and an end is one of its initiator.
-use Rattle.std.proofs.Common.{◌≡◌, ◌∙◌, refl, sym, ap, subst, ℕ, List, [], ◌∷◌}
-use Rattle.std.proofs.lemmas.Bool.{false≢true}
-use Rattle.sbp_bus.specs.Places.{holder_at, opened_step}
-use Rattle.sbp_bus.specs.Telling.{list_in, orb_in}
-use Rattle.sbp_bus.specs.Words.{check_of}
-use Rattle.sbp_journal.specs.declared.side.Side.{Side}
+use Rattle.sbp_world.proofs.Words.Std.{◌≡◌, ◌∙◌, refl, sym, ap, subst, ℕ, List, [], ◌∷◌, false≢true}
+use Rattle.sbp_world.proofs.Words.Wire.{holder_at, opened_step, list_in, orb_in, check_of, Side, Moment}
+use Rattle.sbp_world.proofs.Words.Laws.{runs}
+use Rattle.sbp_world.proofs.Words.World.{holder, ticket_at, told, told_all, WorldState}
 use Rattle.sbp_journal.specs.declared.side.Side.TheVariants as sides
-use Rattle.sbp_journal.specs.Run.{Moment}
-use Rattle.sbp_laws.specs.Terms.{runs}
-use Rattle.sbp_world.specs.Telling.{holder, ticket_at, told, told_all}
-use Rattle.sbp_world.specs.Worlds.{WorldState}
 use Rattle.sbp_world.proofs.Agents.Management.Still.{hist}
 use Rattle.sbp_world.proofs.Lists.BusyFollows.{AreOf, IsOf}
 use Rattle.sbp_world.proofs.Lists.Running.{runs_other}

@@ -1,16 +1,10 @@
 -- What the target tells of cuts and of the steps of an agent, by the history: a list that was cut is cut from then on; other initiators' ORBs ran as often as before.
-use Rattle.std.proofs.Common.{◌≡◌, ◌∙◌, refl, sym, ap, subst, ℕ, nat_eq, Bool, true, false, cond, List, [], ◌∷◌, ◌++◌, Option, Some, None}
-use Rattle.sbp_bus.specs.declared.places.Holder.{Holder}
-use Rattle.sbp_bus.specs.Places.{holder_at}
-use Rattle.sbp_journal.specs.declared.cause.CutCause.{CutCause}
+use Rattle.sbp_world.proofs.Words.Std.{◌≡◌, ◌∙◌, refl, sym, ap, subst, ℕ, nat_eq, Bool, true, false, cond, List, [], ◌∷◌, ◌++◌, Option, Some, None}
+use Rattle.sbp_world.proofs.Words.Wire.{Holder, holder_at, CutCause, Side, Moment, said}
+use Rattle.sbp_world.proofs.Words.Laws.{is_cut, runs}
+use Rattle.sbp_world.proofs.Words.World.{holder, told, told_all, WorldState}
 use Rattle.sbp_journal.specs.declared.note.Note.TheVariants as notes
-use Rattle.sbp_journal.specs.declared.side.Side.{Side}
 use Rattle.sbp_journal.specs.declared.side.Side.TheVariants as sides
-use Rattle.sbp_journal.specs.Run.{Moment, said}
-use Rattle.sbp_laws.specs.OrderLaw.{is_cut}
-use Rattle.sbp_laws.specs.Terms.{runs}
-use Rattle.sbp_world.specs.Telling.{holder, told, told_all}
-use Rattle.sbp_world.specs.Worlds.{WorldState}
 use Rattle.sbp_world.proofs.Agents.Management.Still.{hist}
 use Rattle.sbp_world.proofs.Lists.BusyCuts.{AreBeside, AreCuts, WasCut}
 use Rattle.sbp_world.proofs.Lists.Endless.{told_both}

@@ -1,20 +1,11 @@
 -- Who injected no packets by a history injected none before.
-use Rattle.std.proofs.Common.{◌≡◌, ◌∙◌, refl, sym, ap, ℕ, suc, nat_eq, Bool, true, false, cond, List, [], ◌∷◌, ◌++◌, Option, Some, None}
-use Rattle.std.proofs.lemmas.Bool.{true≢false}
-use Rattle.sbp_base.specs.Update.{upd}
-use Rattle.sbp_journal.specs.declared.cause.Cause.{Cause}
+use Rattle.sbp_world.proofs.Words.Std.{◌≡◌, ◌∙◌, refl, sym, ap, ℕ, suc, nat_eq, Bool, true, false, cond, List, [], ◌∷◌, ◌++◌, Option, Some, None, true≢false, upd}
+use Rattle.sbp_world.proofs.Words.Wire.{Cause, Event, Note, rcode_of, Moment, asked, said, Kind, Part, Sending, Transaction, asked_by, begun_by, between, is_same_kind, is_to, part_of, request, response, Held, Owed, Terms, arrives, asked_in, begins, begun_in, closes, closes_if, free, gets, gets_as, gives, ignores, ignores_that, is_news, is_served, judges, judges_if, noted, opened, pays, puts, rests, sends, terms, times_out, waits}
+use Rattle.sbp_world.proofs.Words.World.{WorldState, without_notes, IsCalm, Unrun}
 use Rattle.sbp_journal.specs.declared.cause.Cause.TheVariants as causes
-use Rattle.sbp_journal.specs.declared.event.Event.{Event}
 use Rattle.sbp_journal.specs.declared.event.Event.TheVariants as events
-use Rattle.sbp_journal.specs.declared.note.Note.{Note}
 use Rattle.sbp_journal.specs.declared.note.Note.TheVariants as notes
-use Rattle.async_packet.specs.Fields.{rcode_of}
-use Rattle.sbp_journal.specs.Run.{Moment, asked, said}
-use Rattle.sbp_journal.specs.Transactions.{Kind, Part, Sending, Transaction, asked_by, begun_by, between, is_same_kind, no_packet, is_to, part_of, request, response}
-use Rattle.sbp_journal.specs.Wire.{Held, Owed, Terms, arrives, asked_in, begins, begun_in, closes, closes_if, free, gets, gets_as, gives, ignores, ignores_that, is_news, is_served, judges, judges_if, noted, opened, pays, puts, rests, sends, terms, times_out, waits}
-use Rattle.sbp_world.specs.Worlds.{WorldState, without_notes}
-use Rattle.sbp_world.specs.Lists.Needs.{IsCalm}
-use Rattle.sbp_world.specs.Lists.Running.{Unrun}
+use Rattle.sbp_journal.specs.Transactions.{no_packet}
 
 -- what changes nothing of it
 abbrev Same : Terms → Terms → Type 0

@@ -1,37 +1,21 @@
 -- In every run in which no initiator injected packets, or few logins were given, the ORB of each run, and of each end but with the status failed, of an initiator that injected none, was read as the carried law
 -- says: behind its append, while its list was open.
-use Rattle.std.proofs.Common.{◌≡◌, ◌∙◌, sym, ap, subst, ℕ, Bool, false, List, [], ◌∷◌, ◌++◌, map, Option, Some, None, IsSomeAnd}
-use Rattle.orb_layout.specs.declared.command.CommandOrb.{CommandOrb}
-use Rattle.orb_layout.specs.declared.status.StatusKind.{StatusKind}
+use Rattle.sbp_world.proofs.Words.Std.{◌≡◌, ◌∙◌, sym, ap, subst, ℕ, Bool, false, List, [], ◌∷◌, ◌++◌, map, Option, Some, None, IsSomeAnd}
+use Rattle.sbp_world.proofs.Words.Wire.{Moment, asked, said, Note}
+use Rattle.sbp_world.proofs.Words.Target.{Disk}
+use Rattle.sbp_world.proofs.Words.Initiator.{CommandOrb, StatusKind}
+use Rattle.sbp_world.proofs.Words.Laws.{EndIsCarried, IsAsAppended, MatchesStatus, injectors, request_at, EachMoment, OrderLaw}
+use Rattle.sbp_world.proofs.Words.World.{history_of, after, beginning, after_all, begun, more_deliveries, EndIsCarriedAt, RunWasRead, RunWasReadAt, WereRead, WereReadLaw, OpenListsLaw, EndIsNamed, RunIsNamed, SentAsGot, IsCalm, OneUpLaw}
 use Rattle.orb_layout.specs.declared.status.StatusKind.TheVariants as kinds
-use Rattle.rbc_disk.specs.Disk.{Disk}
-use Rattle.sbp_journal.specs.Run.{Moment, asked, said}
-use Rattle.sbp_journal.specs.declared.note.Note.{Note}
 use Rattle.sbp_journal.specs.declared.note.Note.TheVariants as notes
-use Rattle.sbp_laws.specs.CarriedLaw.{EndIsCarried, IsAsAppended, MatchesStatus}
-use Rattle.sbp_laws.specs.Lawful.{injectors}
-use Rattle.sbp_laws.specs.Terms.{request_at}
-use Rattle.sbp_laws.specs.Turns.{EachMoment}
-use Rattle.sbp_world.specs.Histories.{history_of}
-use Rattle.sbp_world.specs.Runs.{after, beginning}
-use Rattle.sbp_world.specs.Settling.{after_all}
-use Rattle.sbp_world.specs.Worlds.{begun}
-use Rattle.sbp_world.specs.Hosts.Runs.{more_deliveries}
-use Rattle.sbp_world.specs.Lists.CarriedEnds.{EndIsCarriedAt, RunWasRead, RunWasReadAt, WereRead, WereReadLaw}
-use Rattle.sbp_world.specs.Lists.Closes.{OpenListsLaw}
-use Rattle.sbp_world.specs.Lists.OrbNames.{EndIsNamed, RunIsNamed}
-use Rattle.sbp_world.specs.Lists.OrbReads.{SentAsGot}
-use Rattle.sbp_world.specs.Lists.Needs.{IsCalm}
 use Rattle.sbp_world.proofs.Lists.Calm.{calm_before}
 use Rattle.sbp_world.proofs.Lists.Fair.{Told, told_before, told_everywhere}
 use Rattle.sbp_world.proofs.Lists.Courses.{more_than_one}
 use Rattle.sbp_world.proofs.Lists.Executes.{NamedEnd, NamedRun, OpensBeside, ends_named, opens_before, runs_named}
 use Rattle.sbp_world.proofs.Lists.ListsProved.{closing}
 use Rattle.sbp_world.proofs.Lists.NamedReads.{named_read, named_read_by}
-use Rattle.sbp_laws.specs.OrderLaw.{OrderLaw}
 use Rattle.sbp_world.proofs.Lists.RunLaws.{order_run_law}
 use Rattle.sbp_world.proofs.Lists.SentGots.{sent_as_got}
-use Rattle.sbp_world.specs.Lists.OneUp.{OneUpLaw}
 use Rattle.sbp_world.proofs.Lists.OpenGots.{OpenAsGot, open_as_got}
 
 module _ (wild : ℕ → Bool) (start : List Disk) (past : List Moment) (f : Told past) (sent : EachMoment (SentAsGot start) past) (opens : OpenAsGot start past) (law : OrderLaw wild past) where

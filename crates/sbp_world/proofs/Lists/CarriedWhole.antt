@@ -1,19 +1,12 @@
 -- The carried law of every run in which no initiator injected packets, or few logins were given: of what ran and of what ended, of the answers that were taken, and of where commands run.
-use Rattle.std.proofs.Common.{ℕ, Bool, List, [], ◌∷◌, Option, Some, None}
-use Rattle.orb_layout.specs.declared.status.StatusKind.{StatusKind}
+use Rattle.sbp_world.proofs.Words.Std.{ℕ, Bool, List, [], ◌∷◌, Option, Some, None}
+use Rattle.sbp_world.proofs.Words.Wire.{Moment, asked, said, Note}
+use Rattle.sbp_world.proofs.Words.Target.{Disk}
+use Rattle.sbp_world.proofs.Words.Initiator.{StatusKind}
+use Rattle.sbp_world.proofs.Words.Laws.{CarriedAt, injectors, nobody, EachMoment}
+use Rattle.sbp_world.proofs.Words.World.{history_of, AnswerCarriedAt, AnswersHoldLaw, EndIsCarriedAt, WereReadLaw, CarriedRunLaw, ReadAndFedAt, ReadAndFedLaw}
 use Rattle.orb_layout.specs.declared.status.StatusKind.TheVariants as kinds
-use Rattle.rbc_disk.specs.Disk.{Disk}
-use Rattle.sbp_journal.specs.Run.{Moment, asked, said}
-use Rattle.sbp_journal.specs.declared.note.Note.{Note}
 use Rattle.sbp_journal.specs.declared.note.Note.TheVariants as notes
-use Rattle.sbp_laws.specs.CarriedLaw.{CarriedAt}
-use Rattle.sbp_laws.specs.Lawful.{injectors, nobody}
-use Rattle.sbp_laws.specs.Turns.{EachMoment}
-use Rattle.sbp_world.specs.Histories.{history_of}
-use Rattle.sbp_world.specs.Lists.AnswersHold.{AnswerCarriedAt, AnswersHoldLaw}
-use Rattle.sbp_world.specs.Lists.CarriedEnds.{EndIsCarriedAt, WereReadLaw}
-use Rattle.sbp_world.specs.Lists.CarriedWhole.{CarriedRunLaw}
-use Rattle.sbp_world.specs.Lists.ReadFeeds.{ReadAndFedAt, ReadAndFedLaw}
 use Rattle.sbp_world.proofs.Lists.Executes.{due_runs_law}
 
 module _ (wild : ℕ → Bool) (start : List Disk) (past : List Moment) where

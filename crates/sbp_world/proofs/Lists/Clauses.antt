@@ -1,28 +1,9 @@
 -- The laws of lists, as the clauses of a world have them: with the lines of a run, which name units of 16 bits.
-use Rattle.std.proofs.Common.{◌≡◌, ◌<◌, ◌≤◌, ℕ, length}
-use Rattle.sbp_laws.specs.Lawful.{injectors}
-use Rattle.sbp_world.specs.Histories.{history_of}
-use Rattle.sbp_world.specs.Runs.{Run}
-use Rattle.sbp_world.specs.Hosts.Runs.{IsRun}
-use Rattle.sbp_world.specs.Lists.Brought.{AreBrought}
-use Rattle.sbp_world.specs.Lists.FewLogins.{IsTameOrFew}
+use Rattle.sbp_world.proofs.Words.Std.{◌≡◌, ◌<◌, ◌≤◌, ℕ, length}
+use Rattle.sbp_world.proofs.Words.Laws.{injectors}
+use Rattle.sbp_world.proofs.Words.World.{history_of, Run, IsRun, AreBrought, IsTameOrFew, AnswerLengthsLaw, WereReadLaw, CarriedRunLaw, OpenListsLaw, DataSentLaw, RunsSinceLaw, LiveLaw, OneUpLaw, NobodyAsGotLaw, LogoutsLaw, ListsLaw, OwnAsGotLaw, OwnGotsLaw, OwnReadsLaw, ReadsAsGotLaw, ReadAndFedLaw, AheadAsGotLaw, WaitsAsGotLaw, DataHeldLaw, ManagedAsGotLaw, AnswersBroughtLaw, AnswersHoldLaw, CutOffLaw, MainSlotsLaw, CutSlotsLaw, DataGotsLaw, ServedGotLaw, DataSequenceLaw, DataServedLaw}
 use Rattle.sbp_world.proofs.Lists.Executes.{ends_read_law, runs_fed_law, runs_read_law}
 use Rattle.sbp_world.proofs.Lists.ListsProved.{closing}
-use Rattle.sbp_world.specs.Lists.AnswerLengths.{AnswerLengthsLaw}
-use Rattle.sbp_world.specs.Lists.CarriedEnds.{WereReadLaw}
-use Rattle.sbp_world.specs.Lists.CarriedWhole.{CarriedRunLaw}
-use Rattle.sbp_world.specs.Lists.Closes.{OpenListsLaw}
-use Rattle.sbp_world.specs.Lists.DataWrites.{DataSentLaw}
-use Rattle.sbp_world.specs.Lists.FedRuns.{RunsSinceLaw}
-use Rattle.sbp_world.specs.Lists.Live.{LiveLaw}
-use Rattle.sbp_world.specs.Lists.OneUp.{OneUpLaw}
-use Rattle.sbp_world.specs.Lists.NobodyGots.{NobodyAsGotLaw}
-use Rattle.sbp_world.specs.Lists.Opened.{LogoutsLaw}
-use Rattle.sbp_world.specs.Lists.LawfulLists.{ListsLaw}
-use Rattle.sbp_world.specs.Lists.OwnGots.{OwnAsGotLaw}
-use Rattle.sbp_world.specs.Lists.OwnReads.{OwnGotsLaw, OwnReadsLaw}
-use Rattle.sbp_world.specs.Lists.OwnWaits.{ReadsAsGotLaw}
-use Rattle.sbp_world.specs.Lists.ReadFeeds.{ReadAndFedLaw}
 use Rattle.sbp_world.proofs.Lists.AnswerLengths.{answer_lengths_law}
 use Rattle.sbp_world.proofs.Lists.AheadGots.{ahead_as_got_law}
 use Rattle.sbp_world.proofs.Lists.AheadWaits.{waits_as_got_law}
@@ -41,16 +22,6 @@ use Rattle.sbp_world.proofs.Lists.OwnGots.{own_as_got_law}
 use Rattle.sbp_world.proofs.Lists.OwnWaits.{reads_as_got_law}
 use Rattle.sbp_world.proofs.Lists.ReadFeeds.{read_and_fed_law}
 use Rattle.sbp_world.proofs.Lists.ShortLines.{short_law}
-use Rattle.sbp_world.specs.Lists.AheadGots.{AheadAsGotLaw, WaitsAsGotLaw}
-use Rattle.sbp_world.specs.Lists.DataHolds.{DataHeldLaw}
-use Rattle.sbp_world.specs.Lists.ManagedGots.{ManagedAsGotLaw}
-use Rattle.sbp_world.specs.Lists.AnswersCarried.{AnswersBroughtLaw}
-use Rattle.sbp_world.specs.Lists.AnswersHold.{AnswersHoldLaw}
-use Rattle.sbp_world.specs.Lists.CutOff.{CutOffLaw, MainSlotsLaw}
-use Rattle.sbp_world.specs.Lists.CutSlots.{CutSlotsLaw}
-use Rattle.sbp_world.specs.Lists.DataGots.{DataGotsLaw, ServedGotLaw}
-use Rattle.sbp_world.specs.Lists.DataSequences.{DataSequenceLaw}
-use Rattle.sbp_world.specs.Lists.DataServes.{DataServedLaw}
 
 pub sessions_law : LiveLaw
 sessions_law = proved.sessions_law short_law

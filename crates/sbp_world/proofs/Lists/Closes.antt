@@ -1,28 +1,17 @@
 -- What each place of a run needs so that lists are open there as they should be, where they were so before: from what is known of the writes of ORB_POINTER, of the
 -- lists that are open, and of the statuses that are taken.
-use Rattle.std.proofs.Common.{◌≡◌, refl, subst, ℕ, ◌<◌, ◌≤◌, List, [], ◌∷◌, ◌++◌, map, length, Option}
-use Rattle.rbc_disk.specs.Runs.{Told}
-use Rattle.sbp_journal.specs.Run.{Moment, asked, said}
-use Rattle.sbp_world.specs.Histories.{history_of}
-use Rattle.sbp_world.specs.Runs.{Run, after, beginning}
-use Rattle.sbp_world.specs.Settling.{MayAll, after_all}
-use Rattle.sbp_world.specs.Worlds.{WorldState, begun}
-use Rattle.sbp_world.specs.Hosts.Runs.{IsRun, more_deliveries}
+use Rattle.sbp_world.proofs.Words.Std.{◌≡◌, refl, subst, ℕ, ◌<◌, ◌≤◌, List, [], ◌∷◌, ◌++◌, map, length, Option}
+use Rattle.sbp_world.proofs.Words.Wire.{Moment, asked, said}
+use Rattle.sbp_world.proofs.Words.Target.{Told}
+use Rattle.sbp_world.proofs.Words.World.{history_of, Run, after, beginning, MayAll, after_all, WorldState, begun, IsRun, more_deliveries, PointersLaw, BegunLaw, Always, AreBehind, AreFirsts, AreHere, AreUntaken, PlacesLaw, Under, WhereTameOrFew, IsLast, IsCalm, OpenBefore, OpenBetween, AreNamedFor, IsTameOrFew}
 use Rattle.sbp_world.proofs.Hosts.Lasting.{lasting_law}
 use Rattle.sbp_world.proofs.Hosts.Runs.{count_after, count_between}
-use Rattle.sbp_world.specs.Pointers.Pointers.{PointersLaw}
-use Rattle.sbp_world.specs.Lists.Begun.{BegunLaw}
-use Rattle.sbp_world.specs.Lists.Closes.{Always, AreBehind, AreFirsts, AreHere, AreUntaken, PlacesLaw, Under, WhereTameOrFew}
 use Rattle.sbp_world.proofs.Lists.Firsts.{first_law}
-use Rattle.sbp_world.specs.Lists.Lasts.{IsLast}
-use Rattle.sbp_world.specs.Lists.Needs.{IsCalm, OpenBefore, OpenBetween}
-use Rattle.sbp_world.specs.Lists.Places.{AreNamedFor}
 use Rattle.sbp_world.proofs.Lists.NamedWrites.{AllNamed, Known, first_names, names_walk}
 use Rattle.sbp_world.proofs.Lists.Naming.{names_law}
 use Rattle.sbp_world.proofs.Lists.OpenWires.{wire_after, wire_between}
 use Rattle.sbp_world.proofs.Lists.Beside.{tame_or_few_before}
 use Rattle.sbp_world.proofs.Lists.TameWalks.{still_after, still_between}
-use Rattle.sbp_world.specs.Lists.FewLogins.{IsTameOrFew}
 use Rattle.sbp_world.proofs.Common.{delivers}
 
 -- ---- what open lists stand on at a place

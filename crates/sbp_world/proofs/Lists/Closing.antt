@@ -1,36 +1,17 @@
 -- From place to place of a run in which no initiator injected packets, or few logins were given: where each place has what it needs as lists were open as they should be before, they are so at
 -- every place; and where they are so in every such run, they were so before each place of it.
-use Rattle.std.proofs.Common.{arith, ◌≡◌, sym, subst, ℕ, ◌+◌, ◌^◌, ◌<◌, ◌≤◌, List, [], ◌∷◌, ◌++◌, map, length, Option, Some, None}
-use Rattle.rbc_disk.specs.Runs.{Told}
-use Rattle.sbp_journal.specs.declared.event.Event.{Event}
+use Rattle.sbp_world.proofs.Words.Std.{arith, ◌≡◌, sym, subst, ℕ, ◌+◌, ◌^◌, ◌<◌, ◌≤◌, List, [], ◌∷◌, ◌++◌, map, length, Option, Some, None}
+use Rattle.sbp_world.proofs.Words.Wire.{Event, Moment, asked, said, Sending, terms, end_note}
+use Rattle.sbp_world.proofs.Words.Target.{Told}
+use Rattle.sbp_world.proofs.Words.World.{history_of, moments_behind, MayHappen, happens, AreEntries, Entry, Run, after, beginning, MayAll, after_all, delivered_next, is_settled, AreLines, Scene, WorldState, begun, DeliversMore, IsRun, more_deliveries, PointersAt, PointersLaw, BegunLaw, ClosingLaw, OpenListsLaw, AreEnded, AreLast, LastLaw, OpenAfter, OpenBefore, OpenBehind, OpenBetween, OpenIn, OpenLists, OpenWhile, AreListed, IsTameOrFew}
 use Rattle.sbp_journal.specs.declared.event.Event.TheVariants as events
 use Rattle.sbp_journal.specs.declared.note.Note.TheVariants as notes
-use Rattle.sbp_journal.specs.Run.{Moment, asked, said}
-use Rattle.sbp_journal.specs.Transactions.{Sending}
-use Rattle.sbp_journal.specs.Wire.{terms}
-use Rattle.sbp_world.specs.Histories.{history_of, moments_behind}
-use Rattle.sbp_bus.specs.Packets.{end_note}
-use Rattle.sbp_world.specs.Lines.{MayHappen, happens}
-use Rattle.sbp_world.specs.Runs.{AreEntries, Entry, Run, after, beginning}
-use Rattle.sbp_world.specs.Settling.{MayAll, after_all, delivered_next, is_settled}
-use Rattle.sbp_world.specs.Wire.Lines.{AreLines}
-use Rattle.sbp_world.specs.Worlds.{Scene, WorldState, begun}
-use Rattle.sbp_world.specs.Agents.Management.Terms.{DeliversMore}
-use Rattle.sbp_world.specs.Hosts.Runs.{IsRun, more_deliveries}
 use Rattle.sbp_world.proofs.Hosts.Runs.{count_after, count_between}
-use Rattle.sbp_world.specs.Pointers.Pointers.{PointersAt, PointersLaw}
-use Rattle.sbp_world.specs.Lists.Begun.{BegunLaw}
-use Rattle.sbp_world.specs.Lists.Closes.{ClosingLaw, OpenListsLaw}
-use Rattle.sbp_world.specs.Lists.EndedLists.{AreEnded}
-use Rattle.sbp_world.specs.Lists.Lasts.{AreLast, LastLaw}
-use Rattle.sbp_world.specs.Lists.Needs.{OpenAfter, OpenBefore, OpenBehind, OpenBetween, OpenIn, OpenLists, OpenWhile}
-use Rattle.sbp_world.specs.Lists.Places.{AreListed}
 use Rattle.sbp_world.proofs.Lists.Closes.{Closes, ClosesLaw, closes_law}
 use Rattle.sbp_world.proofs.Lists.EndedLists.{ended_lists_law, none_ended}
 use Rattle.sbp_world.proofs.Lists.OpenLasting.{lasts}
 use Rattle.sbp_world.proofs.Lists.OpenWires.{wire_after, wire_between}
 use Rattle.sbp_world.proofs.Lists.Runs.{as_front, next_extends, said_more}
-use Rattle.sbp_world.specs.Lists.FewLogins.{IsTameOrFew}
 use Rattle.sbp_world.proofs.Lists.Beside.{tame_or_few_before}
 use Rattle.sbp_world.proofs.Lists.RunSites.{more_by}
 use Rattle.sbp_world.proofs.Common.{delivers}

@@ -1,23 +1,14 @@
 -- What a packet that stands for an operation asks for, by the phase of the operation: in every run.
-use Rattle.std.proofs.Common.{arith, ◌≡◌, ◌∙◌, refl, sym, ap, ℕ, zero, ◌&&◌, nat_eq, nat_le, not, Bool, true, false, cond, List, [], ◌∷◌, length, Some, None}
-use Rattle.std.proofs.lemmas.Bool.Decides.{nat_tests}
-use Rattle.std.proofs.lemmas.Option.{none-some}
-use Rattle.async_packet.specs.Fields.{largest}
-use Rattle.label_table.specs.Bodies.{Body, block_read, block_write, quadlet_read}
-use Rattle.mgmt_agent.specs.declared.operation.Operation.{Operation}
+use Rattle.sbp_world.proofs.Words.Std.{arith, ◌≡◌, ◌∙◌, refl, sym, ap, ℕ, zero, ◌&&◌, nat_eq, nat_le, not, Bool, true, false, cond, List, [], ◌∷◌, length, Some, None, nat_tests, none-some}
+use Rattle.sbp_world.proofs.Words.Wire.{largest, Body, block_read, block_write, quadlet_read, Access, Moment, said}
+use Rattle.sbp_world.proofs.Words.Target.{Operation, high_eui_at, low_eui_at, Disk, manager_body}
+use Rattle.sbp_world.proofs.Words.Initiator.{Ask}
+use Rattle.sbp_world.proofs.Words.Laws.{is_nothing, is_serial, target_at}
+use Rattle.sbp_world.proofs.Words.World.{write_access, AccessOf, AreContents, ContentsLaw, WasAsked, access_for, is_its_packet, managed_for, operation_if}
 use Rattle.mgmt_agent.specs.declared.operation.Phase.{Phase}
 use Rattle.mgmt_agent.specs.declared.operation.Phase.TheVariants as phases
-use Rattle.mgmt_agent.specs.Machine.{high_eui_at, low_eui_at}
-use Rattle.orb_layout.specs.declared.ask.Ask.{Ask}
-use Rattle.rbc_disk.specs.Disk.{Disk}
-use Rattle.sbp_journal.specs.Addresses.{Access}
 use Rattle.sbp_journal.specs.declared.note.Note.TheVariants as notes
-use Rattle.sbp_journal.specs.Run.{Moment, said}
-use Rattle.sbp_laws.specs.Targets.{is_nothing, is_serial, target_at}
-use Rattle.sbp_target.specs.Management.{manager_body}
-use Rattle.sbp_world.specs.Agents.AskedRuns.{write_access}
-use Rattle.sbp_world.specs.Lists.Contents.{AccessOf, AreContents, ContentsLaw, IsAsked, WasAsked, access_for}
-use Rattle.sbp_world.specs.Lists.ManagedFor.{is_its_packet, managed_for, operation_if}
+use Rattle.sbp_world.specs.Lists.Contents.{IsAsked}
 use Rattle.sbp_world.proofs.Lists.ContentPhases.{AskOf, sits}
 use Rattle.sbp_world.proofs.Lists.ContentRuns.{contents_after, contents_between}
 

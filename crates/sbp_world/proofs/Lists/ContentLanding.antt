@@ -1,70 +1,24 @@
 -- A packet is delivered to the target: behind the whole turn each packet of an operation asks for what the operation asked for.
-use Rattle.std.proofs.Common.{arith, ◌≡◌, ◌≢◌, ◌∙◌, refl, sym, ap, subst, ℕ, ◌^◌, ◌<◌, ◌≤◌, is_some, Bool, true, false, cond, List, [], ◌∷◌, length, Option, Some, None, Result, Ok}
-use Rattle.std.specs.Prelude.{unwrap_or}
-use Rattle.std.proofs.lemmas.Bool.Decides.{nat_tests}
-use Rattle.async_packet.specs.declared.fault.PacketFault.{PacketFault}
-use Rattle.async_packet.specs.Labels.{LabelParts}
-use Rattle.async_packet.specs.Packet.{Packet, header_in, lock, lock_response, read_block, read_block_response, read_quadlet, read_quadlet_response, write_block, write_quadlet, write_response}
-use Rattle.async_packet.specs.Reading.{reading}
-use Rattle.bus_transactions.specs.Fitting.{AreBytes}
-use Rattle.bus_transactions.specs.Judging.{AreJudged}
-use Rattle.bus_transactions.specs.Wire.{as_sending}
+use Rattle.sbp_world.proofs.Words.Std.{arith, ◌≡◌, ◌≢◌, ◌∙◌, refl, sym, ap, subst, ℕ, ◌^◌, ◌<◌, ◌≤◌, is_some, Bool, true, false, cond, List, [], ◌∷◌, length, Option, Some, None, Result, Ok, unwrap_or, nat_tests}
+use Rattle.sbp_world.proofs.Words.Wire.{PacketFault, LabelParts, Packet, header_in, lock, lock_response, read_block, read_block_response, read_quadlet, read_quadlet_response, write_block, write_quadlet, write_response, reading, AreBytes, AreJudged, as_sending, ReplyKind, Layer, judging_step, of_response, reply_kind, Sent, found_sent, Access, access_of, Moment, said, Kind, Sending, part_in, part_of, request, response, Terms, terms, Cause, Judged, Outgoing, empty_outbox, canon, kind_as, response_to, start_at, start_serves, judged_note}
+use Rattle.sbp_world.proofs.Words.Target.{Table, ManagerStep, Disk, Demand, demand_of, answered, Purpose, NodeState, scene, answer_in, Whole, TransactionLaw}
+use Rattle.sbp_world.proofs.Words.Laws.{start_got, Target, got_by, is_serial, over, laws_replied, request_got, target_at}
+use Rattle.sbp_world.proofs.Words.World.{sent_all, marked, handed_out, WorldState, with_note, with_target, FitsManager, IsOfWire, Stands, demanded, Office, at_rest, office_of, replied, started, IsManagementAt, AreContents}
 use Rattle.bus_transactions.proofs.PacketParts.{PartOf, asks, part_case, part_read, replies}
-use Rattle.label_table.specs.declared.reply.ReplyKind.{ReplyKind}
-use Rattle.label_table.specs.Layer.{Layer, judging_step, of_response}
-use Rattle.label_table.specs.Requests.{reply_kind}
-use Rattle.login_table.specs.Table.{Table}
-use Rattle.mgmt_agent.specs.declared.decision.ManagerStep.{ManagerStep}
 use Rattle.mgmt_agent.specs.Machine as management
-use Rattle.packet_store.specs.declared.sent.Sent.{Sent}
-use Rattle.packet_store.specs.Kept.{found_sent}
-use Rattle.rbc_disk.specs.Disk.{Disk}
-use Rattle.sbp_journal.specs.Addresses.{Access, access_of}
-use Rattle.sbp_journal.specs.Run.{Moment, said}
-use Rattle.sbp_journal.specs.Transactions.{Kind, Sending, part_in, part_of, request, response}
-use Rattle.sbp_journal.specs.Wire.{Terms, terms}
-use Rattle.sbp_journal.specs.declared.cause.Cause.{Cause}
-use Rattle.sbp_journal.specs.declared.cause.Judged.{Judged}
 use Rattle.sbp_journal.specs.declared.cause.Judged.TheVariants as judgements
-use Rattle.sbp_journal.specs.declared.outbox.Outgoing.{Outgoing}
-use Rattle.sbp_journal.specs.Outgoings.{empty_outbox}
-use Rattle.async_packet.specs.Canon.{canon}
 use Rattle.bus_transactions.specs.Judging.{facts_of}
-use Rattle.bus_transactions.specs.Rows.{kind_as}
 use Rattle.bus_transactions.proofs.FitJudged.{bytes_of, spelled}
-use Rattle.label_table.specs.Bodies.{response_to}
-use Rattle.sbp_journal.specs.Addresses.{start_at, start_serves}
 use Rattle.sbp_laws.specs.Packets as laws
-use Rattle.sbp_laws.specs.Targets.{start_got}
-use Rattle.target_base.specs.declared.address.Demand.{Demand}
 use Rattle.target_base.specs.declared.address.Demand.TheVariants as demands
-use Rattle.target_base.specs.Addresses.{demand_of}
-use Rattle.sbp_target.specs.Serving.{answered}
-use Rattle.sbp_world.specs.Sending.{sent_all}
 use Rattle.sbp_world.proofs.FitTarget.Demands.{FitsDemand, demand_fits}
 use Rattle.sbp_world.proofs.Agents.Management.Demands.{demand_is, starts_at}
-use Rattle.sbp_laws.specs.Targets.{Target, got_by, is_serial, over, replied as laws_replied, request_got, target_at}
-use Rattle.sbp_target.specs.declared.purpose.Purpose.{Purpose}
 use Rattle.sbp_target.specs.declared.purpose.Purpose.TheVariants as purposes
-use Rattle.sbp_target.specs.Nodes.{NodeState, scene}
-use Rattle.sbp_target.specs.Receiving.{answer_in}
-use Rattle.sbp_target.specs.Replies.{Whole}
-use Rattle.sbp_bus.specs.Packets.{judged_note}
-use Rattle.sbp_world.specs.Delivering.{marked}
-use Rattle.sbp_world.specs.Handing.{handed_out}
-use Rattle.sbp_world.specs.Worlds.{WorldState, with_note, with_target}
-use Rattle.sbp_target.specs.Histories.Transactions.{TransactionLaw}
 use Rattle.sbp_target.proofs.Histories.Calling.{Good}
 use Rattle.sbp_world.proofs.FitTarget.Agents.{BytesIn, FitsAsk}
 use Rattle.sbp_world.proofs.FitTarget.Manager.{managed_fits}
 use Rattle.sbp_target.proofs.Histories.Primitives.{closing_known}
 use Rattle.sbp_target.proofs.Histories.Seats.{Lives}
-use Rattle.sbp_world.specs.FitTarget.{FitsManager}
-use Rattle.sbp_world.specs.Wire.History.{IsOfWire}
-use Rattle.sbp_world.specs.Wire.Wires.{Stands}
-use Rattle.sbp_world.specs.Agents.Management.Calls.{demanded}
-use Rattle.sbp_world.specs.Agents.Management.Offices.{Office, at_rest, office_of, replied, started}
-use Rattle.sbp_world.specs.Agents.Management.Terms.{IsManagementAt}
 use Rattle.sbp_world.proofs.Agents.Management.Asking.{Turned}
 use Rattle.sbp_world.proofs.Agents.Management.Calls.{ForDemand, IsStart}
 use Rattle.sbp_world.proofs.Agents.Management.Calm.{Calm, ForManager}
@@ -79,7 +33,6 @@ use Rattle.sbp_world.proofs.Agents.Management.Offices.{over_keeps}
 use Rattle.sbp_world.proofs.Agents.Management.Outs.{response_term}
 use Rattle.sbp_world.proofs.Agents.Management.Still.{hist}
 use Rattle.sbp_world.proofs.Agents.Management.Told.{office_in, term_in}
-use Rattle.sbp_world.specs.Lists.Contents.{AreContents}
 use Rattle.sbp_world.proofs.Lists.ContentTurns.{Passes, calm_contents, managing_contents, none_passes, one_passes}
 use Rattle.sbp_world.proofs.Agents.Management.Landing.{response_part, start_asks, answer_is_one}
 use Rattle.sbp_world.proofs.Agents.CrewFirsts.{current_by}

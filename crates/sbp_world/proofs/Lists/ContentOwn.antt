@@ -1,53 +1,18 @@
 -- Turns in which the management sends nothing that is asked for: those of initiators; a sight, a second, a time-out of the target; and the other lines.
-use Rattle.std.proofs.Common.{arith, ◌≡◌, ◌∙◌, refl, sym, ap, subst, ℕ, suc, ◌+◌, ◌-◌, ◌==◌, not, nat_eq, nat_lt, Bool, true, false, cond, List, [], ◌∷◌, length, Option, Some, None, Result, Ok, Err}
-use Rattle.std.specs.Prelude.{slice_index_or, slice_set}
-use Rattle.std.proofs.lemmas.Bool.Decides.{nat_tests}
-use Rattle.label_table.specs.declared.reply.Stale.{Stale}
-use Rattle.mgmt_agent.specs.declared.operation.Operation.{Operation}
+use Rattle.sbp_world.proofs.Words.Std.{arith, ◌≡◌, ◌∙◌, refl, sym, ap, subst, ℕ, suc, ◌+◌, ◌-◌, ◌==◌, not, nat_eq, nat_lt, Bool, true, false, cond, List, [], ◌∷◌, length, Option, Some, None, Result, Ok, Err, slice_index_or, slice_set, nat_tests}
+use Rattle.sbp_world.proofs.Words.Wire.{Stale, Sent, Request, id_of, node_of, judged_note, no_packet, Judged, Action, Note, Outgoing, Side, OutboxState, empty_outbox, Moment, said, Sending, terms}
+use Rattle.sbp_world.proofs.Words.Target.{Operation, reply_to, Table, Disk, TargetScene, scene, expired, with_key}
+use Rattle.sbp_world.proofs.Words.Initiator.{Nothing, Expired, act_step, InitiatorState, Turn, new_state, expire_step, receive_step, see_step}
+use Rattle.sbp_world.proofs.Words.Laws.{sender_in, Target, is_serial, over, laws_replied, target_at, target_by}
+use Rattle.sbp_world.proofs.Words.World.{marked, with_initiators, handed_out, acted, acted_by, keyed, no_unit, weight_in, handed_all, initiator_learns, reset_line, see_line, target_learns, target_sees, target_ticks, tick_line, told_seen, with_seen, at_initiator, expires, initiator_expires, inject_line, injected, injected_to, is_in_flight, lose_line, lost, refused, target_expired, target_left, timed_out, posted, sent, sent_all, sent_to, told, told_all, WorldState, initiator_at, with_initiator, with_note, with_target, Office, at_rest, cleared, office_of, AreOthers, AreContents, ContentAt}
 use Rattle.mgmt_agent.specs.declared.operation.Phase.{Phase}
 use Rattle.mgmt_agent.specs.declared.operation.Phase.TheVariants as phases
-use Rattle.mgmt_agent.specs.Machine.{Machine, reply_step, reply_to}
-use Rattle.login_table.specs.Table.{Table}
-use Rattle.orb_layout.specs.declared.ask.Ask.TheVariants.{Nothing}
-use Rattle.orb_layout.specs.Replies.{Expired}
-use Rattle.packet_store.specs.declared.sent.Sent.{Sent}
-use Rattle.rbc_disk.specs.Disk.{Disk}
-use Rattle.sbp_bus.specs.declared.requests.Request.{Request}
-use Rattle.sbp_bus.specs.Generations.{id_of, node_of}
-use Rattle.sbp_bus.specs.Packets.{judged_note, no_packet}
-use Rattle.sbp_initiator.specs.Acting.{act_step}
-use Rattle.sbp_initiator.specs.declared.state.InitiatorState.{InitiatorState}
-use Rattle.sbp_initiator.specs.Effects.{Turn}
-use Rattle.sbp_initiator.specs.Initiators.{new_state}
-use Rattle.sbp_initiator.specs.Receiving.{expire_step, receive_step}
-use Rattle.sbp_initiator.specs.Seeing.{see_step}
-use Rattle.sbp_journal.specs.declared.cause.Judged.{Judged}
+use Rattle.mgmt_agent.specs.Machine.{Machine, reply_step}
 use Rattle.sbp_journal.specs.declared.cause.Judged.TheVariants as judgements
-use Rattle.sbp_journal.specs.declared.event.Action.{Action}
-use Rattle.sbp_journal.specs.declared.note.Note.{Note}
 use Rattle.sbp_journal.specs.declared.note.Note.TheVariants as notes
-use Rattle.sbp_journal.specs.declared.outbox.Outgoing.{Outgoing}
-use Rattle.sbp_journal.specs.declared.side.Side.{Side}
 use Rattle.sbp_journal.specs.declared.side.Side.TheVariants as sides
-use Rattle.sbp_journal.specs.Outgoings.{OutboxState, empty_outbox}
-use Rattle.sbp_journal.specs.Run.{Moment, said}
-use Rattle.sbp_journal.specs.Transactions.{Sending}
-use Rattle.sbp_journal.specs.Wire.{terms}
-use Rattle.sbp_laws.specs.Packets.{sender_in}
-use Rattle.sbp_laws.specs.Targets.{Target, is_serial, over, replied as laws_replied, target_at, target_by}
-use Rattle.sbp_target.specs.Nodes.{Scene as TargetScene, scene}
-use Rattle.sbp_target.specs.Receiving.{expired, with_key}
-use Rattle.sbp_world.specs.Delivering.{marked, with_initiators}
-use Rattle.sbp_world.specs.Handing.{handed_out}
-use Rattle.sbp_world.specs.Lines.{acted, acted_by, keyed, no_unit, weight_in}
-use Rattle.sbp_world.specs.Nodes.{handed_all, initiator_learns, reset_line, see_line, target_learns, target_sees, target_ticks, tick_line, told_seen, with_seen}
 use Rattle.sbp_world.specs.Nodes as nodes
-use Rattle.sbp_world.specs.Packets.{at_initiator, expires, initiator_expires, inject_line, injected, injected_to, is_in_flight, lose_line, lost, refused, target_expired, target_left, timed_out}
 use Rattle.sbp_world.specs.Packets as packets
-use Rattle.sbp_world.specs.Sending.{posted, sent, sent_all, sent_to}
-use Rattle.sbp_world.specs.Telling.{told, told_all}
-use Rattle.sbp_world.specs.Worlds.{WorldState, initiator_at, with_initiator, with_note, with_target}
-use Rattle.sbp_world.specs.Agents.Management.Offices.{Office, at_rest, cleared, office_of}
 use Rattle.sbp_world.proofs.Agents.Management.Firsts.{lapsed_here, lapsed_there, other_reply, own_reply, sight_office, tick_office, wire_is}
 use Rattle.sbp_world.proofs.InitiatorForms as own
 use Rattle.sbp_world.proofs.Agents.Management.Holding.{marked_hist}
@@ -55,10 +20,8 @@ use Rattle.sbp_world.proofs.Agents.Management.Offices.{over_keeps}
 use Rattle.sbp_world.proofs.Formed.{AreOwn, IsNoRun}
 use Rattle.sbp_world.proofs.Agents.Management.Sides.{AllBehind}
 use Rattle.sbp_world.proofs.Agents.Management.Still.{hist}
-use Rattle.sbp_world.specs.Hosts.Handing.{AreOthers}
 use Rattle.sbp_world.proofs.Hosts.Hands.{second_tells, sight_tells}
 use Rattle.sbp_world.proofs.Hosts.TargetTells as target_tells
-use Rattle.sbp_world.specs.Lists.Contents.{AreContents, ContentAt}
 use Rattle.sbp_world.proofs.Lists.ContentTurns.{asked_contents, calm_contents}
 
 -- what the target tells is told behind the first note

@@ -1,6 +1,5 @@
 -- What the target sends for an operation is what it asked for, at each place of every run.
-use Rattle.sbp_world.specs.Hosts.Runs.{more_deliveries}
-use Rattle.sbp_world.specs.Lists.Contents.{AreAsked}
+use Rattle.sbp_world.proofs.Words.World.{more_deliveries, AreAsked}
 use Rattle.sbp_world.proofs.Lists.ContentAsked.{contents_law}
 use Rattle.sbp_world.proofs.Lists.Courses.{EveryPlace, more_than_one}
 

@@ -1,43 +1,20 @@
 -- The turns of the target: where its management asks for nothing, no packet is one that it asked for; and where an operation has a turn, the request that leaves
 -- behind what was told asks for what the operation asked for.
-use Rattle.std.proofs.Common.{◌≡◌, ◌∙◌, refl, sym, ap, subst, ℕ, ◌+◌, ◌&&◌, not, Bool, true, false, List, [], ◌∷◌, Option, Some, None}
-use Rattle.std.specs.Prelude.{is_none, position}
-use Rattle.async_packet.specs.Labels.{LabelParts}
-use Rattle.bus_transactions.specs.Fitting.{AreBytes, FitsRequest}
-use Rattle.label_table.specs.Bodies.{Body, block_read, block_write, quadlet_read, quadlet_write}
-use Rattle.label_table.specs.Laws.{relabelled}
+use Rattle.sbp_world.proofs.Words.Std.{◌≡◌, ◌∙◌, refl, sym, ap, subst, ℕ, ◌+◌, ◌&&◌, not, Bool, true, false, List, [], ◌∷◌, Option, Some, None, is_none, position}
+use Rattle.sbp_world.proofs.Words.Wire.{LabelParts, AreBytes, FitsRequest, Body, block_read, block_write, quadlet_read, quadlet_write, relabelled, GenerationsState, node_of, function_word, login_if, access_of, Moment, Kind, part_of, response, Note, FunctionWord, Outgoing, Side, OutboxState}
+use Rattle.sbp_world.proofs.Words.Target.{Disk, manager_body, NodeState, scene, request_packet}
+use Rattle.sbp_world.proofs.Words.Initiator.{Ask, Nothing}
+use Rattle.sbp_world.proofs.Words.Laws.{access_in_bytes, Decided, Target, is_nothing, is_serial, is_write_access, sent_as, taken_on}
+use Rattle.sbp_world.proofs.Words.World.{handed_out, asked, posted, sent, sent_all, sent_to, told, told_all, WorldState, Office, by_managed, by_note, by_side, by_sides, office_of, placed, placed_by, AreContents, access_for, is_its_packet}
 use Rattle.mgmt_agent.specs.Machine as management
-use Rattle.orb_layout.specs.declared.ask.Ask.{Ask}
-use Rattle.orb_layout.specs.declared.ask.Ask.TheVariants.{Nothing}
-use Rattle.rbc_disk.specs.Disk.{Disk}
-use Rattle.sbp_bus.specs.Generations.{GenerationsState, node_of}
-use Rattle.sbp_bus.specs.Words.{function_word, login_if}
-use Rattle.sbp_journal.specs.Addresses.{access_of}
-use Rattle.sbp_journal.specs.Run.{Moment}
-use Rattle.sbp_journal.specs.Transactions.{Kind, part_of, response}
-use Rattle.sbp_journal.specs.declared.note.Note.{Note}
 use Rattle.sbp_journal.specs.declared.note.Note.TheVariants as notes
-use Rattle.sbp_journal.specs.declared.operation.FunctionWord.{FunctionWord}
 use Rattle.sbp_journal.specs.declared.operation.FunctionWord.TheVariants as functions
-use Rattle.sbp_journal.specs.declared.outbox.Outgoing.{Outgoing}
-use Rattle.sbp_journal.specs.declared.side.Side.{Side}
 use Rattle.sbp_journal.specs.declared.side.Side.TheVariants as sides
-use Rattle.sbp_journal.specs.Outgoings.{OutboxState}
-use Rattle.sbp_laws.specs.Packets.{access_in_bytes}
-use Rattle.sbp_laws.specs.Targets.{Decided, Target, is_nothing, is_serial, is_write_access, sent_as, taken_on}
 use Rattle.sbp_target.specs.declared.purpose.Purpose.TheVariants as purposes
-use Rattle.sbp_target.specs.Management.{manager_body}
-use Rattle.sbp_target.specs.Nodes.{NodeState, scene}
-use Rattle.sbp_world.specs.Handing.{handed_out}
-use Rattle.sbp_world.specs.Sending.{asked, posted, sent, sent_all, sent_to}
-use Rattle.sbp_world.specs.Telling.{told, told_all}
-use Rattle.sbp_world.specs.Worlds.{WorldState}
 use Rattle.sbp_world.proofs.FitTarget.Agents.{FitsAsk}
 use Rattle.sbp_world.proofs.FitTarget.Nodes.{IfBody, manager_body_fits}
 use Rattle.sbp_world.proofs.Wire.Alike.{IsAlike, all_alike, alike_then, sent_more, told_alike}
-use Rattle.sbp_target.specs.Histories.Layers.{request as request_packet}
 use Rattle.sbp_target.proofs.Histories.Seats.{Lives}
-use Rattle.sbp_world.specs.Agents.Management.Offices.{Office, by_managed, by_note, by_side, by_sides, office_of, placed, placed_by}
 use Rattle.sbp_world.proofs.Agents.AskedBytes.{plain, reads_back}
 use Rattle.sbp_world.proofs.Agents.Management.Asking.{Leaves, MayLeave, Turned, leaves, silent}
 use Rattle.sbp_world.proofs.Agents.Management.Idle.{IsIdle}
@@ -47,8 +24,7 @@ use Rattle.sbp_world.proofs.Agents.Management.Requests.{asked_labelled}
 use Rattle.sbp_world.proofs.Agents.Management.Sides.{AllBehind, TellsBehind}
 use Rattle.sbp_world.proofs.Agents.Management.Still.{hist}
 use Rattle.sbp_world.proofs.Agents.Management.Told.{all_sides, office_in, posts, term_in}
-use Rattle.sbp_world.specs.Lists.Contents.{AreContents, IsAsked, access_for}
-use Rattle.sbp_world.specs.Lists.ManagedFor.{is_its_packet}
+use Rattle.sbp_world.specs.Lists.Contents.{IsAsked}
 use Rattle.sbp_world.proofs.Common.{untrue}
 
 -- ---- a packet that is none of the operation

@@ -1,25 +1,16 @@
 -- How many live logins the places of a table have (NCITS 325-1998, login, reconnect and logout): at most one for each place; one more where a login is granted, and at most one
 -- fewer behind any other decision.
-use Rattle.std.proofs.Common.{arith, ◌≡◌, ◌∙◌, refl, sym, ap, subst, ℕ, zero, suc, ◌+◌, ◌*◌, ◌<◌, ◌≤◌, ◌==◌, not, Bool, true, false, cond, List, [], ◌∷◌, length, Option, Some, None, Result, Ok, Err}
-use Rattle.std.specs.Prelude.{is_none, position, slice_set}
-use Rattle.std.proofs.lemmas.List.Quantifiers.{position-Some}
-use Rattle.login_table.specs.declared.login.Entered.{Entered}
-use Rattle.login_table.specs.declared.login.Login.{Login}
-use Rattle.login_table.specs.declared.login.LoginRefusal.{LoginRefusal}
+use Rattle.sbp_world.proofs.Words.Std.{arith, ◌≡◌, ◌∙◌, refl, sym, ap, subst, ℕ, zero, suc, ◌+◌, ◌*◌, ◌<◌, ◌≤◌, ◌==◌, not, Bool, true, false, cond, List, [], ◌∷◌, length, Option, Some, None, Result, Ok, Err, is_none, position, slice_set, position-Some}
+use Rattle.sbp_world.proofs.Words.Wire.{function_word, login_if, FunctionWord}
+use Rattle.sbp_world.proofs.Words.Target.{Entered, Login, LoginRefusal, LoginRequest, Table, back_at, back_step, back_to, enter_at, enter_step, entered, find, fresh_id, id_at, is_held, is_live, is_live_of, is_old, leave_at, leave_step, left_for, next_id, place_at, revived, Function, asked_by, decide, decide_function, key_at, lacks_key, login_decided, unit_exists, with_status, function_of, number_of}
+use Rattle.sbp_world.proofs.Words.Initiator.{ManagementOrb}
 use Rattle.login_table.specs.declared.login.LoginRefusal.TheVariants as refusals
-use Rattle.login_table.specs.Requests.{LoginRequest}
 use Rattle.login_table.specs.Table as table
-use Rattle.login_table.specs.Table.{Table, back_at, back_step, back_to, enter_at, enter_step, entered, find, fresh_id, id_at, is_barred, is_held, is_live, is_live_of, is_old, leave_at, leave_step, left_for, next_id, place_at, revived}
+use Rattle.login_table.specs.Table.{is_barred}
 use Rattle.login_table.proofs.Searching.{found}
 use Rattle.mgmt_agent.specs.declared.decision.Outcome.{Outcome}
-use Rattle.mgmt_agent.specs.declared.function.Function.{Function}
 use Rattle.mgmt_agent.specs.declared.function.Function.TheVariants as functions
 use Rattle.mgmt_agent.specs.declared.status.Status.TheVariants as statuses
-use Rattle.mgmt_agent.specs.Decisions.{asked_by, decide, decide_function, key_at, lacks_key, login_decided, unit_exists, with_status}
-use Rattle.mgmt_agent.specs.Statuses.{function_of, number_of}
-use Rattle.orb_layout.specs.declared.management.ManagementOrb.{ManagementOrb}
-use Rattle.sbp_bus.specs.Words.{function_word, login_if}
-use Rattle.sbp_journal.specs.declared.operation.FunctionWord.{FunctionWord}
 use Rattle.sbp_journal.specs.declared.operation.FunctionWord.TheVariants as words
 use Rattle.sbp_world.proofs.Agents.Management.Deciding.{Agrees, IsOther, agree}
 use Rattle.sbp_world.proofs.Lists.GrantSides.{word_grants}

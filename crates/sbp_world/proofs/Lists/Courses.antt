@@ -1,29 +1,18 @@
 -- A statement that each turn of a run keeps holds at every place of the run between two turns, where lists were open as they should be before this place. A turn is
 -- a line that delivers one packet at most, the beginning of one that delivers more, a delivery of it, or the end of one that settles.
-use Rattle.std.proofs.Common.{arith, ◌≡◌, ◌∙◌, refl, sym, ap, subst, ℕ, suc, ◌+◌, ◌^◌, ◌<◌, ◌≤◌, Bool, List, [], ◌∷◌, ◌++◌, map, length, Option, Some, None}
-use Rattle.rbc_disk.specs.Disk.{Disk}
-use Rattle.rbc_disk.specs.Runs.{Told}
-use Rattle.sbp_journal.specs.declared.event.Event.{Event}
+use Rattle.sbp_world.proofs.Words.Std.{arith, ◌≡◌, ◌∙◌, refl, sym, ap, subst, ℕ, suc, ◌+◌, ◌^◌, ◌<◌, ◌≤◌, Bool, List, [], ◌∷◌, ◌++◌, map, length, Option, Some, None}
+use Rattle.sbp_world.proofs.Words.Wire.{Event, Moment, asked, said}
+use Rattle.sbp_world.proofs.Words.Target.{Disk, Told}
+use Rattle.sbp_world.proofs.Words.Laws.{event_of}
+use Rattle.sbp_world.proofs.Words.World.{history_of, moments_behind, MayHappen, happens, new_world, ready_logins, AreEntries, Entry, Run, after, beginning, MayAll, MayNext, after_all, delivered_next, is_settled, settled_from, AreLines, IsLine, Scene, WorldState, begun, DeliversMore, IsRun, more_deliveries, OpenAfter, OpenBefore, OpenBetween, OpenIn, OpenLists, OpenWhile}
 use Rattle.sbp_journal.specs.declared.event.Event.TheVariants as events
-use Rattle.sbp_journal.specs.Run.{Moment, asked, said}
-use Rattle.sbp_world.specs.Histories.{history_of, moments_behind}
-use Rattle.sbp_world.specs.Lines.{MayHappen, happens}
-use Rattle.sbp_world.specs.Making.{new_world, ready_logins}
-use Rattle.sbp_world.specs.Runs.{AreEntries, Entry, Run, after, beginning}
-use Rattle.sbp_world.specs.Settling.{MayAll, MayNext, after_all, delivered_next, is_settled, settled_from}
-use Rattle.sbp_world.specs.Wire.Lines.{AreLines, IsLine}
-use Rattle.sbp_world.specs.Worlds.{Scene, WorldState, begun}
 use Rattle.sbp_world.proofs.Wire.ToldBytes.{happened_fits}
-use Rattle.sbp_world.specs.Agents.Management.Terms.{DeliversMore}
 use Rattle.sbp_world.proofs.Agents.Management.Begins.{first_holds, first_past}
 use Rattle.sbp_world.proofs.Agents.Management.Holding.{Holding}
 use Rattle.sbp_world.proofs.Agents.Management.Lines.{all_heard, line_holds, opens}
 use Rattle.sbp_world.proofs.Agents.Management.Runs.{no_repeats, not_reset}
 use Rattle.sbp_world.proofs.Agents.Management.Still.{hist}
-use Rattle.sbp_world.specs.Hosts.Runs.{IsRun, more_deliveries}
-use Rattle.sbp_world.specs.Lists.Needs.{OpenAfter, OpenBefore, OpenBetween, OpenIn, OpenLists, OpenWhile}
 use Rattle.sbp_world.proofs.Lists.Runs.{as_front}
-use Rattle.sbp_laws.specs.Turns.{event_of}
 use Rattle.sbp_world.proofs.Hosts.Carries.{IsNoAct}
 use Rattle.sbp_world.proofs.Lists.Turned.{IsOne}
 use Rattle.sbp_world.proofs.Lists.JoinLaws.{moments_same, lines_same}

@@ -1,19 +1,10 @@
 -- In every run in which no initiator injected packets, or few logins were given: each request of the target that is under way, for the page table or the buffer of a slot of an initiator that injected none, is the main transaction of
 -- an agent, or an ORB had the slot whose list was cut. So what answers a request of nobody begins elsewhere than in the slot of an ORB of a list that is open.
-use Rattle.std.proofs.Common.{arith, ◌≡◌, refl, subst, inl, ◌⊎◌, ◌<◌, ◌≤◌, ℕ, nat_lt, Bool, true, false, List, [], length}
-use Rattle.std.proofs.lemmas.Bool.Decides.{nat_tests}
-use Rattle.rbc_disk.specs.Disk.{Disk}
-use Rattle.sbp_journal.specs.Run.{Moment}
-use Rattle.sbp_journal.specs.Wire.{terms}
-use Rattle.sbp_world.specs.Histories.{moments_behind}
-use Rattle.sbp_world.specs.Runs.{Run, beginning}
-use Rattle.sbp_world.specs.Worlds.{Scene, WorldState}
+use Rattle.sbp_world.proofs.Words.Std.{arith, ◌≡◌, refl, subst, inl, ◌⊎◌, ◌<◌, ◌≤◌, ℕ, nat_lt, Bool, true, false, List, [], length, nat_tests}
+use Rattle.sbp_world.proofs.Words.Wire.{Moment, terms}
+use Rattle.sbp_world.proofs.Words.Target.{Disk}
+use Rattle.sbp_world.proofs.Words.World.{moments_behind, Run, beginning, Scene, WorldState, more_deliveries, Always, OpenListsLaw, UnderFrom, WhereTameOrFew, AreForOrbs, CutOffLaw, IsInSlot, IsMainAt, WasCutOff, IsTameOrFew, NobodyAsGotLaw}
 use Rattle.sbp_world.proofs.Agents.Management.Still.{hist}
-use Rattle.sbp_world.specs.Hosts.Runs.{more_deliveries}
-use Rattle.sbp_world.specs.Lists.Closes.{Always, OpenListsLaw, UnderFrom, WhereTameOrFew}
-use Rattle.sbp_world.specs.Lists.CutOff.{AreForOrbs, CutOffLaw, IsInSlot, IsMainAt, WasCutOff}
-use Rattle.sbp_world.specs.Lists.FewLogins.{IsTameOrFew}
-use Rattle.sbp_world.specs.Lists.NobodyGots.{NobodyAsGotLaw}
 use Rattle.sbp_world.proofs.Lists.Beside.{tame_or_few_before}
 use Rattle.sbp_world.proofs.Lists.Courses.{more_than_one}
 use Rattle.sbp_world.proofs.Lists.CutOffSteps.{TurnFacts, old_goes}

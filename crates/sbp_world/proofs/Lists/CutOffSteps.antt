@@ -1,33 +1,17 @@
 -- Over a turn: a request for the page table or the buffer of a slot that is under way stays the main transaction of its agent, or the agent was put to RESET, which cuts its list; and it is in the target's generation still.
-use Rattle.std.proofs.Common.{append_assoc, arith, ◌≡◌, ◌∙◌, refl, sym, ap, subst, inl, inr, ◌⊎◌, ◌<◌, ◌≤◌, ◌==◌, ◌&&◌, ℕ, Bool, true, false, List, [], ◌∷◌, ◌++◌, length, map, Option, Some, None}
-use Rattle.std.proofs.lemmas.Bool.Decides.{nat_tests}
-use Rattle.bus_transactions.specs.Packets.{SerialsCount}
-use Rattle.command_agent.specs.Machine.{is_sent}
-use Rattle.command_agent.specs.declared.phase.Phase.{Phase}
+use Rattle.sbp_world.proofs.Words.Std.{append_assoc, arith, ◌≡◌, ◌∙◌, refl, sym, ap, subst, inl, inr, ◌⊎◌, ◌<◌, ◌≤◌, ◌==◌, ◌&&◌, ℕ, Bool, true, false, List, [], ◌∷◌, ◌++◌, length, map, Option, Some, None, nat_tests}
+use Rattle.sbp_world.proofs.Words.Wire.{SerialsCount, Moment, asked, said, Sending, Transaction, Held, Terms, terms, waits, Event, Note}
+use Rattle.sbp_world.proofs.Words.Target.{is_sent, Phase, Disk}
+use Rattle.sbp_world.proofs.Words.Laws.{is_cut, access_in, begun_in, is_under_way, is_waiting_for, packet_in, receiver_in, sender_in, waits_for, agent_at, over, target_at, ends}
+use Rattle.sbp_world.proofs.Words.World.{holder, Stands, WorldState, IsForOrb, IsInSlot, IsMainAt, WasCutOff, IsCut, WasReset, initiator_in, machine_at}
 use Rattle.command_agent.specs.declared.phase.Phase.TheVariants as phases
-use Rattle.rbc_disk.specs.Disk.{Disk}
-use Rattle.sbp_journal.specs.Run.{Moment, asked, said}
-use Rattle.sbp_journal.specs.Transactions.{Sending, Transaction}
-use Rattle.sbp_journal.specs.Wire.{Held, Terms, terms, waits}
-use Rattle.sbp_journal.specs.declared.event.Event.{Event}
 use Rattle.sbp_journal.specs.declared.event.Event.TheVariants as events
-use Rattle.sbp_journal.specs.declared.note.Note.{Note}
 use Rattle.sbp_journal.specs.declared.note.Note.TheVariants as notes
-use Rattle.sbp_laws.specs.OrderLaw.{is_cut}
-use Rattle.sbp_laws.specs.Packets.{access_in, begun_in, is_under_way, is_waiting_for, packet_in, receiver_in, sender_in, waits_for}
-use Rattle.sbp_laws.specs.Targets.{agent_at, over, target_at}
-use Rattle.sbp_laws.specs.Terms.{ends}
-use Rattle.sbp_world.specs.Telling.{holder}
-use Rattle.sbp_world.specs.Wire.Wires.{Stands}
-use Rattle.sbp_world.specs.Worlds.{WorldState}
 use Rattle.sbp_world.proofs.Agents.Management.Holding.{past_terms}
 use Rattle.sbp_world.proofs.Agents.Management.Still.{hist}
 use Rattle.sbp_world.proofs.Hosts.PointerRuns.{Awaits, awaits_of}
 use Rattle.sbp_world.proofs.Hosts.Remaining.{remains}
 use Rattle.sbp_world.proofs.Wire.Bus.{holds}
-use Rattle.sbp_world.specs.Lists.CutOff.{IsForOrb, IsInSlot, IsMainAt, WasCutOff}
-use Rattle.sbp_world.specs.Lists.LetsGo.{IsCut, WasReset}
-use Rattle.sbp_world.specs.Lists.Needs.{initiator_in, machine_at}
 use Rattle.sbp_world.proofs.Lists.BegunBy.{transaction_of}
 use Rattle.sbp_world.proofs.Lists.CutOffs.{had_later, off_stays}
 use Rattle.sbp_world.proofs.Lists.DataWaits.{under_way_now}

@@ -1,12 +1,8 @@
 -- What an ORB that was cut off leaves: its slot stays closed to lists that are open, while the target is in its generation.
-use Rattle.std.proofs.Common.{append_assoc, arith, ◌≡◌, ◌∙◌, refl, sym, ap, subst, ◌<◌, ◌≤◌, ℕ, suc, Bool, true, false, List, ◌++◌, Some, None}
-use Rattle.std.proofs.lemmas.Bool.{false≢true}
-use Rattle.sbp_journal.specs.Run.{Moment}
-use Rattle.sbp_journal.specs.Wire.{terms}
-use Rattle.sbp_laws.specs.Lists.{orb, prepared_in, taken_at}
-use Rattle.sbp_laws.specs.OrderLaw.{IsOpen, is_cut}
-use Rattle.sbp_laws.specs.Terms.{ends}
-use Rattle.sbp_world.specs.Lists.CutOff.{HadSlot, WasCutOff, ahead, in_generation}
+use Rattle.sbp_world.proofs.Words.Std.{append_assoc, arith, ◌≡◌, ◌∙◌, refl, sym, ap, subst, ◌<◌, ◌≤◌, ℕ, suc, Bool, true, false, List, ◌++◌, Some, None, false≢true}
+use Rattle.sbp_world.proofs.Words.Wire.{Moment, terms}
+use Rattle.sbp_world.proofs.Words.Laws.{orb, prepared_in, taken_at, IsOpen, is_cut, ends}
+use Rattle.sbp_world.proofs.Words.World.{HadSlot, WasCutOff, ahead, in_generation}
 use Rattle.sbp_world.proofs.Lists.DataSlots.{same_orb}
 use Rattle.sbp_world.proofs.Lists.Joins.{Begins}
 use Rattle.sbp_world.proofs.Lists.Passing.{PassLaw}

@@ -1,36 +1,15 @@
 -- What the agent of a place writes in a call of the target, by a reply, a time-out and a request for a read: what its step asks for, or to FIFOs of logins; so do the
 -- unsolicited status blocks for other logins.
-use Rattle.std.proofs.Common.{arith, ◌≡◌, ◌∙◌, refl, sym, ap, subst, ◌<◌, ℕ, Bool, true, false, cond, List, [], length, Option, Some, None}
-use Rattle.std.proofs.Math.ListN.{length-set}
-use Rattle.command_agent.specs.declared.step.AgentStep.{AgentStep}
-use Rattle.command_agent.specs.declared.step.Which.{Which}
-use Rattle.command_agent.specs.Machine.{Machine, new_machine}
-use Rattle.command_agent.specs.Steps.{lost_step, quiet, reply_step}
-use Rattle.label_table.specs.declared.judgement.Asked.{Asked}
-use Rattle.label_table.specs.Bodies.{block_write}
-use Rattle.label_table.specs.Layer.{Layer, asking_step}
-use Rattle.login_table.specs.declared.login.Login.{Login}
-use Rattle.login_table.specs.Table.{Table, is_live, place_at}
-use Rattle.media_bay.specs.Unsolicited.{block}
+use Rattle.sbp_world.proofs.Words.Std.{arith, ◌≡◌, ◌∙◌, refl, sym, ap, subst, ◌<◌, ℕ, Bool, true, false, cond, List, [], length, Option, Some, None, length-set}
+use Rattle.sbp_world.proofs.Words.Wire.{Asked, block_write, Layer, asking_step, empty_outbox}
+use Rattle.sbp_world.proofs.Words.Target.{AgentStep, Which, Machine, new_machine, lost_step, quiet, reply_step, Login, Table, is_live, place_at, block, Disk, disk_at, Told, Desk, Purpose, follow, taken, NodeState, Scene, desk_at, login_at, scene, with_desk, expired_by, Stage, advance, announced_by, came, changed_by, follow_all, plain_in, replied, stage, whole, request_step, sent_by, with_side, unsolicited_by, Announced, pushes, stay, withholds}
+use Rattle.sbp_world.proofs.Words.Initiator.{Answer}
+use Rattle.sbp_world.proofs.Words.Laws.{access_in_bytes}
+use Rattle.sbp_world.proofs.Words.World.{WorldState}
 use Rattle.orb_layout.specs.declared.ask.Ask.TheVariants as asks
 use Rattle.orb_layout.specs.declared.ask.FailCause.TheVariants as causes
-use Rattle.orb_layout.specs.Replies.{Answer}
-use Rattle.rbc_disk.specs.Disk.{Disk, disk_at}
-use Rattle.rbc_disk.specs.Runs.{Told}
 use Rattle.sbp_journal.specs.declared.side.Side.TheVariants as sides
-use Rattle.sbp_journal.specs.Outgoings.{empty_outbox}
-use Rattle.sbp_laws.specs.Packets.{access_in_bytes}
-use Rattle.sbp_target.specs.declared.desk.Desk.{Desk}
-use Rattle.sbp_target.specs.declared.purpose.Purpose.{Purpose}
 use Rattle.sbp_target.specs.declared.purpose.Purpose.TheVariants as purposes
-use Rattle.sbp_target.specs.Agents.{follow}
-use Rattle.sbp_target.specs.Desks.{taken}
-use Rattle.sbp_target.specs.Nodes.{NodeState, Scene, desk_at, login_at, scene, with_desk}
-use Rattle.sbp_target.specs.Receiving.{expired_by}
-use Rattle.sbp_target.specs.Replies.{Stage, advance, announced_by, came, changed_by, follow_all, plain_in, replied, stage, whole}
-use Rattle.sbp_target.specs.Sending.{request_step, sent_by, with_side}
-use Rattle.sbp_target.specs.Units.{unsolicited_by}
-use Rattle.sbp_world.specs.Worlds.{WorldState}
 use Rattle.sbp_target.proofs.Histories.Calling.{Good}
 use Rattle.sbp_world.proofs.Agents.AskedLate.{follow_logins}
 use Rattle.sbp_world.proofs.Lists.DataFollows.{AllSo, IsSo, follows_so, more_so, to_fifo}
@@ -40,7 +19,6 @@ use Rattle.sbp_world.proofs.Lists.StatusBytes.{wrote}
 use Rattle.sbp_world.proofs.Lists.StatusPackets.{unsolicited_small}
 use Rattle.sbp_world.proofs.Lists.StatusReads.{IsOfBody, asked_body}
 use Rattle.sbp_world.proofs.Lists.StatusSteps.{lost_leaves, replied_leaves}
-use Rattle.sbp_target.specs.Histories.Moves.{Announced, pushes, stay, withholds}
 use Rattle.sbp_target.proofs.Histories.Moved.{announced_moves}
 use Rattle.sbp_target.proofs.Histories.Views.{heard_live, kept}
 

@@ -1,54 +1,19 @@
 -- What each call of the target writes: to FIFOs of logins alone; or what the step of an agent asks for as a reply comes, beside; or the management goes on.
-use Rattle.std.proofs.Common.{◌≡◌, ◌∙◌, refl, sym, ap, subst, ◌<◌, nat_lt, ℕ, Bool, true, false, cond, List, [], ◌∷◌, length, Option, Some, None, Result, Ok, Err, arith, ◌++◌}
-use Rattle.std.proofs.Math.ListN.{length-set}
-use Rattle.std.proofs.lemmas.Option.{none-some}
-use Rattle.async_packet.specs.Labels.{LabelParts}
-use Rattle.async_packet.specs.Packet.{Packet, header_in}
-use Rattle.command_agent.specs.declared.step.AgentStep.{AgentStep}
-use Rattle.command_agent.specs.declared.step.PointRefusal.{PointRefusal}
-use Rattle.command_agent.specs.declared.step.Which.{Which}
-use Rattle.command_agent.specs.declared.step.Which.TheVariants.{Ahead, Main}
-use Rattle.command_agent.specs.Machine.{Machine, new_machine, present_of}
+use Rattle.sbp_world.proofs.Words.Std.{◌≡◌, ◌∙◌, refl, sym, ap, subst, ◌<◌, nat_lt, ℕ, Bool, true, false, cond, List, [], ◌∷◌, length, Option, Some, None, Result, Ok, Err, arith, ◌++◌, length-set, none-some}
+use Rattle.sbp_world.proofs.Words.Wire.{LabelParts, Packet, header_in, Finding, Layer, judging_step, of_again, of_generation, of_grammar, of_label, of_request, of_response, Sent, Judged, Outgoing, empty_outbox, Side}
+use Rattle.sbp_world.proofs.Words.Target.{AgentStep, PointRefusal, Which, Ahead, Main, Machine, new_machine, present_of, doorbell_step, lost_step, point_step, quiet, reply_step, Login, is_live, Held, Told, address_error, complete, demand_of, if_served, Access, Demand, Desk, Purpose, cut, pointed_desk, which_in, manage, Scene, desk_at, login_at, scene, with_agent, with_desk, answer_in, concluded, expire_agent, expired_by, received, received_as, timed_out, Whole, plain_in, replied_by, replied_to, served_login, whole, answer_step, with_side, accessed_by, answered, asked_in, enabled, is_barred, point, pointed_by, rcode_of, serving_step, ring, serve, served_as, start, orb_of, tell_ran, Outcome}
+use Rattle.sbp_world.proofs.Words.Initiator.{Ask, OrbPointer, Answer, Expired}
+use Rattle.sbp_world.proofs.Words.World.{whole_of, WorldState}
 use Rattle.command_agent.specs.Steps as steps
-use Rattle.command_agent.specs.Steps.{doorbell_step, lost_step, point_step, quiet, reply_step}
-use Rattle.label_table.specs.Layer.{Finding, Layer, judging_step, of_again, of_generation, of_grammar, of_label, of_request, of_response}
-use Rattle.login_table.specs.declared.login.Login.{Login}
-use Rattle.login_table.specs.Table.{is_live}
-use Rattle.orb_layout.specs.declared.ask.Ask.{Ask}
 use Rattle.orb_layout.specs.declared.ask.Ask.TheVariants as asks
 use Rattle.orb_layout.specs.declared.ask.FailCause.TheVariants as causes
-use Rattle.orb_layout.specs.declared.pointer.OrbPointer.{OrbPointer}
-use Rattle.orb_layout.specs.Replies.{Answer, Expired}
-use Rattle.packet_store.specs.declared.sent.Sent.{Sent}
-use Rattle.rbc_disk.specs.Held.{Held}
-use Rattle.rbc_disk.specs.Runs.{Told}
 use Rattle.sbp_journal.specs.declared.cause.Cause.TheVariants as ignored
 use Rattle.sbp_journal.specs.declared.cause.CutCause.TheVariants as cuts
-use Rattle.sbp_journal.specs.declared.cause.Judged.{Judged}
 use Rattle.sbp_journal.specs.declared.cause.Judged.TheVariants as judgements
-use Rattle.sbp_journal.specs.declared.outbox.Outgoing.{Outgoing}
 use Rattle.sbp_journal.specs.declared.side.Side.TheVariants as sides
-use Rattle.sbp_journal.specs.Outgoings.{empty_outbox}
-use Rattle.target_base.specs.Addresses.{address_error, complete, demand_of}
-use Rattle.target_base.specs.Logins.{if_served}
-use Rattle.target_base.specs.declared.address.Access.{Access}
 use Rattle.target_base.specs.declared.address.Access.TheVariants as accesses
-use Rattle.target_base.specs.declared.address.Demand.{Demand}
 use Rattle.target_base.specs.declared.address.Demand.TheVariants as demands
-use Rattle.sbp_target.specs.declared.desk.Desk.{Desk}
-use Rattle.sbp_target.specs.declared.purpose.Purpose.{Purpose}
 use Rattle.sbp_target.specs.declared.purpose.Purpose.TheVariants as purposes
-use Rattle.sbp_target.specs.Agents.{cut}
-use Rattle.sbp_target.specs.Desks.{pointed_desk, which_in}
-use Rattle.sbp_target.specs.Management.{manage}
-use Rattle.sbp_target.specs.Nodes.{Scene, desk_at, login_at, scene, with_agent, with_desk}
-use Rattle.sbp_target.specs.Receiving.{answer_in, concluded, expire_agent, expired_by, received, received_as, timed_out}
-use Rattle.sbp_target.specs.Replies.{Whole, plain_in, replied_by, replied_to, served_login, whole}
-use Rattle.sbp_target.specs.Sending.{answer_step, with_side}
-use Rattle.sbp_target.specs.Serving.{accessed_by, answered, asked_in, enabled, is_barred, point, pointed_by, rcode_of, request_step as serving_step, ring, serve, served_as, start}
-use Rattle.sbp_target.specs.Telling.{orb_of, tell_ran}
-use Rattle.sbp_world.specs.Delivering.{whole_of}
-use Rattle.sbp_world.specs.Worlds.{WorldState}
 use Rattle.sbp_target.proofs.Histories.Calling.{Good}
 use Rattle.sbp_target.proofs.Histories.Settled.{reaches}
 use Rattle.sbp_world.proofs.Lists.DataActs.{AreFifos, late_so, reply_so}
@@ -58,8 +23,6 @@ use Rattle.sbp_world.proofs.Lists.StatusCalls.{cut_reads, placed, points_at, rea
 use Rattle.sbp_world.proofs.Lists.StatusLosses.{lost_asks, quiet_ahead}
 use Rattle.sbp_world.proofs.Lists.StatusPackets.{AllRead}
 use Rattle.sbp_world.proofs.Lists.StatusUps.{lives_access}
-use Rattle.rbc_disk.specs.declared.command.Outcome.{Outcome}
-use Rattle.sbp_journal.specs.declared.side.Side.{Side}
 use Rattle.sbp_world.proofs.Agents.UnitsKept.{Keeps}
 use Rattle.sbp_world.proofs.Lists.RunTells.{advance_tells}
 use Rattle.sbp_world.proofs.Lists.StatusSteps.{none_wrote}

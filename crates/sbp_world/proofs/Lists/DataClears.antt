@@ -1,18 +1,11 @@
 -- The management asks to write into no buffer of an initiator that injected no packets, at each place of every run.
-use Rattle.std.proofs.Common.{ℕ, ◌<◌, List, [], length}
-use Rattle.rbc_disk.specs.Disk.{Disk}
-use Rattle.sbp_journal.specs.Run.{Moment}
-use Rattle.sbp_target.specs.Receiving.{answer_in}
-use Rattle.sbp_world.specs.Histories.{moments_behind}
-use Rattle.sbp_world.specs.Making.{new_world, ready_logins}
-use Rattle.sbp_world.specs.Runs.{Run, beginning}
-use Rattle.sbp_world.specs.Worlds.{WorldState}
+use Rattle.sbp_world.proofs.Words.Std.{ℕ, ◌<◌, List, [], length}
+use Rattle.sbp_world.proofs.Words.Wire.{Moment}
+use Rattle.sbp_world.proofs.Words.Target.{Disk, answer_in}
+use Rattle.sbp_world.proofs.Words.Laws.{EachMoment}
+use Rattle.sbp_world.proofs.Words.World.{moments_behind, new_world, ready_logins, Run, beginning, WorldState, IsCalm, BasedAt, AreShort}
 use Rattle.sbp_world.proofs.Agents.Management.Holding.{Holding}
 use Rattle.sbp_world.proofs.Agents.Management.Still.{hist}
-use Rattle.sbp_laws.specs.Turns.{EachMoment}
-use Rattle.sbp_world.specs.Lists.Needs.{IsCalm}
-use Rattle.sbp_world.specs.Lists.Placings.{BasedAt}
-use Rattle.sbp_world.specs.Lists.Shorts.{AreShort}
 use Rattle.sbp_world.proofs.Lists.Courses.{EveryPlace, Keeps, at_between, at_lines}
 use Rattle.sbp_world.proofs.Lists.BufferClears.{Ground, few_of, ground_everywhere, no_operation, node_is, own_of}
 use Rattle.sbp_world.proofs.Lists.DataDry.{reply_dry}

@@ -1,33 +1,14 @@
 -- Each write of the data of an ORB but the latest one was closed and served, and behind an end, but as failed, each one; and until a write is judged its slot has the ORB: by induction on the history.
-use Rattle.rbc_disk.specs.Disk.{Disk}
-use Rattle.std.proofs.Common.{arith, ◌≡◌, ◌∙◌, refl, sym, ap, subst, ◌<◌, ◌≤◌, ◌-◌, ◌+◌, ◌^◌, ◌&&◌, not, ℕ, suc, nat_eq, nat_lt, Bool, true, false, cond, List, [], ◌∷◌, ◌++◌, length, Option, Some, None}
-use Rattle.std.proofs.lemmas.Bool.Decides.{nat_tests}
-use Rattle.std.proofs.lemmas.Bool.{false≢true}
-use Rattle.std.proofs.lemmas.Option.{same_Some}
-use Rattle.bus_transactions.specs.Packets.{SerialsCount}
-use Rattle.command_agent.specs.Machine.{Machine, cut_to}
-use Rattle.page_table.specs.Buffer.{chunk, chunk_from}
-use Rattle.sbp_journal.specs.declared.event.Cmd.{Cmd}
-use Rattle.sbp_laws.specs.CarriedBytes.{laid_out}
-use Rattle.orb_layout.specs.declared.status.StatusKind.{StatusKind}
+use Rattle.sbp_world.proofs.Words.Std.{arith, ◌≡◌, ◌∙◌, refl, sym, ap, subst, ◌<◌, ◌≤◌, ◌-◌, ◌+◌, ◌^◌, ◌&&◌, not, ℕ, suc, nat_eq, nat_lt, Bool, true, false, cond, List, [], ◌∷◌, ◌++◌, length, Option, Some, None, nat_tests, false≢true, same_Some}
+use Rattle.sbp_world.proofs.Words.Wire.{SerialsCount, Cmd, Access, Moment, said, Sending, Terms, terms}
+use Rattle.sbp_world.proofs.Words.Target.{Disk, Machine, cut_to}
+use Rattle.sbp_world.proofs.Words.Initiator.{chunk, chunk_from, StatusKind}
+use Rattle.sbp_world.proofs.Words.Laws.{laid_out, command_at, is_over, orb, prepared_in, slot_at, ClosesOne, OnceAt, OnceLaw, WasServed, is_between, is_done, is_wild, is_write_in, access_at, access_in, access_in_bytes, answer_in, is_under_way, packet_at, packet_in, receiver_in, sender_in, appends, ended_status, ends, EachMoment}
+use Rattle.sbp_world.proofs.Words.World.{EndSo, IsWritten, WasWritten, is_behind, is_fresh, AreServed, IsDataOf, WasClosed, DataSo, IsPieceOf, IsAnswered, IsDataWrite, IsInTurn, follows, is_first, HasSlot, TakenSo}
 use Rattle.orb_layout.specs.declared.status.StatusKind.TheVariants as kinds
 use Rattle.sbp_journal.specs.declared.note.Note.TheVariants as notes
-use Rattle.sbp_journal.specs.Addresses.{Access}
-use Rattle.sbp_journal.specs.Run.{Moment, said}
-use Rattle.sbp_journal.specs.Transactions.{Sending}
-use Rattle.sbp_journal.specs.Wire.{Terms, terms}
-use Rattle.sbp_laws.specs.Lists.{command_at, is_over, orb, prepared_in, slot_at}
-use Rattle.sbp_laws.specs.OnceLaw.{ClosesOne, OnceAt, OnceLaw, WasServed, is_between, is_done, is_wild, is_write_in}
-use Rattle.sbp_laws.specs.Packets.{access_at, access_in, access_in_bytes, answer_in, is_under_way, packet_at, packet_in, receiver_in, sender_in}
-use Rattle.sbp_laws.specs.Terms.{appends, ended_status, ends}
-use Rattle.sbp_laws.specs.Turns.{EachMoment}
 use Rattle.sbp_world.proofs.Hosts.Remaining.{remains}
 use Rattle.sbp_world.proofs.Hosts.SentMoments.{sent_below, serials_from}
-use Rattle.sbp_world.specs.Lists.DataEnds.{EndSo, IsWritten, WasWritten, is_behind, is_fresh}
-use Rattle.sbp_world.specs.Lists.DataServes.{AreServed, IsDataOf, WasClosed}
-use Rattle.sbp_world.specs.Lists.DataWrites.{DataSo, IsPieceOf, IsAnswered, IsDataWrite, IsInTurn, follows, is_first}
-use Rattle.sbp_world.specs.Lists.SlotsStay.{HasSlot}
-use Rattle.sbp_world.specs.Lists.Statuses.{TakenSo}
 use Rattle.sbp_world.proofs.Lists.DataHolds.{slot_stays_unless}
 use Rattle.sbp_world.proofs.Lists.DataOpen.{none_ended}
 use Rattle.sbp_world.proofs.Lists.DataServed.{HasEnded, IsOwned, closed_on, dry_before, gen_low, grows, inside, into_turn, mid, moved, over_ended, owner, ran_so, seen_low, shrink, turn, whole}

@@ -1,27 +1,15 @@
 -- Where the management asks to write, as the ORBs that it reads name it: to their FIFOs, and to the places of their responses. So it asks to write into no buffer of an initiator.
-use Rattle.std.proofs.Common.{arith, ◌≡◌, ◌∙◌, refl, sym, ap, subst, ◌<◌, ◌+◌, ◌*◌, ◌^◌, ◌==◌, ℕ, Bool, true, false, cond, List, [], length, Option, Some, None, Result, Ok, Err}
-use Rattle.std.proofs.lemmas.Option.{none-some}
-use Rattle.bus_memory.specs.Memory.{new_memory}
+use Rattle.sbp_world.proofs.Words.Std.{arith, ◌≡◌, ◌∙◌, refl, sym, ap, subst, ◌<◌, ◌+◌, ◌*◌, ◌^◌, ◌==◌, ℕ, Bool, true, false, cond, List, [], length, Option, Some, None, Result, Ok, Err, none-some, quad}
+use Rattle.sbp_world.proofs.Words.Target.{Table, ManagerStep, Operation, Status, decide, reads_eui}
+use Rattle.sbp_world.proofs.Words.Initiator.{new_memory, IfShare, start, window_at, Ask, FailCause, ManagementOrb, management_orb, Answer, payload_of, write_failure}
+use Rattle.sbp_world.proofs.Words.World.{GoodIn, IsAside, IsGoodOrb, IsItsFifo, in_front, of_login, of_place, of_response}
 use Rattle.bus_memory.specs.declared.window.Window.TheVariants as windows
-use Rattle.bus_memory.specs.Windows.{IfShare, start, window_at}
 use Rattle.bus_memory.proofs.Found.{window_here, window_share}
-use Rattle.login_table.specs.Table.{Table}
-use Rattle.mgmt_agent.specs.declared.decision.ManagerStep.{ManagerStep}
 use Rattle.mgmt_agent.specs.declared.decision.Outcome.{Outcome}
-use Rattle.mgmt_agent.specs.declared.operation.Operation.{Operation}
 use Rattle.mgmt_agent.specs.declared.operation.Phase.{Phase}
 use Rattle.mgmt_agent.specs.declared.operation.Phase.TheVariants as phases
-use Rattle.mgmt_agent.specs.declared.status.Status.{Status}
-use Rattle.mgmt_agent.specs.Decisions.{decide, reads_eui}
 use Rattle.mgmt_agent.specs.Machine as management
-use Rattle.orb_layout.specs.declared.ask.Ask.{Ask}
 use Rattle.orb_layout.specs.declared.ask.Ask.TheVariants as asks
-use Rattle.orb_layout.specs.declared.ask.FailCause.{FailCause}
-use Rattle.orb_layout.specs.declared.management.ManagementOrb.{ManagementOrb}
-use Rattle.orb_layout.specs.ManagementOrbs.{management_orb}
-use Rattle.orb_layout.specs.Replies.{Answer, payload_of, write_failure}
-use Rattle.sbp_base.specs.Quadlets.{quad}
-use Rattle.sbp_world.specs.Lists.OwnLogins.{GoodIn, IsAside, IsGoodOrb, IsItsFifo, in_front, of_login, of_place, of_response}
 use Rattle.sbp_world.proofs.Lists.BufferClears.{place_window}
 use Rattle.sbp_world.proofs.Lists.DataOffice.{IsDryAt}
 use Rattle.sbp_world.proofs.Lists.OwnFifos.{fifo_low, fifo_no_window}

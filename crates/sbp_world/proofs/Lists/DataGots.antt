@@ -1,19 +1,10 @@
 -- A write into a data buffer that an initiator gets is the latest one of the data of the ORB that the slot has: it was not judged before, and is of the generation that the initiator is in.
-use Rattle.rbc_disk.specs.Disk.{Disk}
-use Rattle.std.proofs.Common.{arith, ◌≡◌, ◌∙◌, refl, sym, ap, subst, ◌<◌, ◌≤◌, ◌&&◌, not, ℕ, suc, nat_lt, Bool, true, false, List, [], ◌∷◌, ◌++◌, Some}
-use Rattle.std.proofs.lemmas.Bool.Decides.{nat_tests}
-use Rattle.async_packet.specs.Reading.{reading}
+use Rattle.sbp_world.proofs.Words.Std.{arith, ◌≡◌, ◌∙◌, refl, sym, ap, subst, ◌<◌, ◌≤◌, ◌&&◌, not, ℕ, suc, nat_lt, Bool, true, false, List, [], ◌∷◌, ◌++◌, Some, nat_tests}
+use Rattle.sbp_world.proofs.Words.Wire.{reading, Moment, said, Sending, terms}
+use Rattle.sbp_world.proofs.Words.Target.{Disk}
+use Rattle.sbp_world.proofs.Words.Laws.{is_fair, is_fair_write, is_wild, is_write_in, access_at, access_in, packet_in, EachMoment}
+use Rattle.sbp_world.proofs.Words.World.{IsOfTarget, GotSo, IsLatestData, AreServed, IsDataOf, WasClosed, IsDataWrite}
 use Rattle.sbp_journal.specs.declared.note.Note.TheVariants as notes
-use Rattle.sbp_journal.specs.Run.{Moment, said}
-use Rattle.sbp_journal.specs.Transactions.{Sending}
-use Rattle.sbp_journal.specs.Wire.{terms}
-use Rattle.sbp_laws.specs.OnceLaw.{is_fair, is_fair_write, is_wild, is_write_in}
-use Rattle.sbp_laws.specs.Packets.{access_at, access_in, packet_in}
-use Rattle.sbp_laws.specs.Turns.{EachMoment}
-use Rattle.sbp_world.specs.Hosts.Sources.{IsOfTarget}
-use Rattle.sbp_world.specs.Lists.DataGots.{GotSo, IsLatestData}
-use Rattle.sbp_world.specs.Lists.DataServes.{AreServed, IsDataOf, WasClosed}
-use Rattle.sbp_world.specs.Lists.DataWrites.{IsDataWrite}
 use Rattle.sbp_world.proofs.Lists.DataClosed.{IsSound, are_served, sound_from}
 use Rattle.sbp_world.proofs.Lists.DataSequences.{in_sequence}
 use Rattle.sbp_world.proofs.Lists.DataServed.{IsOwned, gen_low, into_turn, mid, owner, seen_low, turn, whole}

@@ -1,64 +1,21 @@
 -- A delivery to the target sends the data of answers as they are to be sent: each write into a buffer of an initiator that injected no packets is of the next chunk of the
 -- present ORB of a list of it, as the turn began; where this is known of the management. A time-out of its own sends none.
-use Rattle.sbp_world.specs.Wire.Lines.{FillsBuffer}
+use Rattle.sbp_world.proofs.Words.Std.{IfSome, arith, ◌≡◌, ◌∙◌, refl, sym, ap, subst, ◌<◌, ℕ, suc, Bool, true, false, List, [], ◌∷◌, ◌++◌, map, Option, Some, None, ◌≤◌, cond, nat_eq, nat_lt, length, slice_index_or, nat_tests, none-some, same_Some}
+use Rattle.sbp_world.proofs.Words.Wire.{Cmd, LabelParts, Packet, header_in, Layer, judging_step, of_response, Sent, node_of, topology_at, judged_note, Access, Note, Outgoing, Side, OutboxState, Moment, said, Holder, holder_at, list_in, orb_in, ran_note, check_of, terms}
+use Rattle.sbp_world.proofs.Words.Target.{Disk, AgentStep, Which, Machine, new_machine, quiet, reply_step, Login, is_live, Held, Told, answer_length_of, answer_of, PlainDisk, Purpose, which_in, manage, Scene, desk_at, login_at, scene, answer_in, received, timed_out, received_as, with_layer, plain_in, served_login, Sense, Outcome, orb_of}
+use Rattle.sbp_world.proofs.Words.Initiator.{IfShare, window_at, Answer, Expired, last_at, TicketParts, InitiatorState, new_state, StatusKind}
+use Rattle.sbp_world.proofs.Words.Laws.{disk_of, known_at, plain_of, target_at, unit_at, ends, lists, runs, ended_status, EachMoment, command_at, linked, orb, present_list, slot_at}
+use Rattle.sbp_world.proofs.Words.World.{FillsBuffer, IsOpenAt, IsAnswerOf, MayTell, whole_of, handed_out, holder, told_all, ticket_at, ticket_of, told, WorldState, answers, has_list, AreOthers, DataSo, IsPieceOf, IsDry, IsFor, machine_at, initiator_in, IsLoginFifo, HasSlot}
 use Rattle.sbp_world.proofs.Agents.UnitsTold.{got_same}
-use Rattle.sbp_laws.specs.Targets.{disk_of, known_at, plain_of, target_at}
-use Rattle.sbp_laws.specs.DiskFold.{unit_at}
-use Rattle.sbp_journal.specs.declared.event.Cmd.{Cmd}
-use Rattle.sbp_world.specs.Lists.Needs.{IsOpenAt}
-use Rattle.std.proofs.Common.{IfSome}
 use Rattle.command_agent.specs.Runs as agent_runs
-use Rattle.sbp_world.specs.Lists.AnswersTold.{IsAnswerOf}
 use Rattle.sbp_world.proofs.Lists.AnswerRuns.{answer_on}
-use Rattle.rbc_disk.specs.Disk.{Disk}
-use Rattle.std.proofs.Common.{arith, ◌≡◌, ◌∙◌, refl, sym, ap, subst, ◌<◌, ℕ, suc, Bool, true, false, List, [], ◌∷◌, ◌++◌, map, Option, Some, None, ◌≤◌, cond, nat_eq, nat_lt, length}
-use Rattle.async_packet.specs.Labels.{LabelParts}
-use Rattle.async_packet.specs.Packet.{Packet, header_in}
 use Rattle.bus_memory.specs.declared.window.Window.TheVariants as windows
-use Rattle.bus_memory.specs.Windows.{IfShare, window_at}
 use Rattle.bus_memory.proofs.Found.{window_share}
-use Rattle.command_agent.specs.declared.step.AgentStep.{AgentStep}
-use Rattle.command_agent.specs.declared.step.Which.{Which}
-use Rattle.command_agent.specs.Machine.{Machine, new_machine}
-use Rattle.command_agent.specs.Steps.{quiet, reply_step}
-use Rattle.label_table.specs.Layer.{Layer, judging_step, of_response}
-use Rattle.login_table.specs.declared.login.Login.{Login}
-use Rattle.login_table.specs.Table.{is_live}
 use Rattle.orb_layout.specs.declared.ask.Ask.TheVariants as asks
-use Rattle.orb_layout.specs.Replies.{Answer, Expired}
-use Rattle.packet_store.specs.declared.sent.Sent.{Sent}
-use Rattle.rbc_disk.specs.Held.{Held}
-use Rattle.rbc_disk.specs.Runs.{Told, answer_length_of, answer_of}
-use Rattle.rbc_disk.specs.Units.{PlainDisk}
-use Rattle.sbp_bus.specs.Generations.{node_of, topology_at}
-use Rattle.sbp_bus.specs.Packets.{judged_note}
-use Rattle.sbp_journal.specs.Addresses.{Access}
-use Rattle.sbp_journal.specs.declared.note.Note.{Note}
 use Rattle.sbp_journal.specs.declared.note.Note.TheVariants as notes
-use Rattle.sbp_journal.specs.declared.outbox.Outgoing.{Outgoing}
-use Rattle.sbp_journal.specs.declared.side.Side.{Side}
 use Rattle.sbp_journal.specs.declared.side.Side.TheVariants as sides
-use Rattle.sbp_journal.specs.Outgoings.{OutboxState}
-use Rattle.sbp_journal.specs.Run.{Moment, said}
-use Rattle.sbp_laws.specs.Terms.{ends, lists, runs, ended_status}
-use Rattle.sbp_laws.specs.Turns.{EachMoment}
-use Rattle.sbp_target.specs.declared.purpose.Purpose.{Purpose}
 use Rattle.sbp_target.specs.declared.purpose.Purpose.TheVariants as purposes
-use Rattle.sbp_target.specs.Desks.{which_in}
-use Rattle.sbp_target.specs.Management.{manage}
-use Rattle.sbp_target.specs.Nodes.{Scene, desk_at, login_at, scene}
-use Rattle.sbp_target.specs.Receiving.{answer_in, received, timed_out, received_as, with_layer}
-use Rattle.sbp_target.specs.Replies.{plain_in, served_login}
-use Rattle.sbp_world.specs.Delivering.{MayTell, whole_of}
-use Rattle.sbp_world.specs.Handing.{handed_out}
-use Rattle.sbp_world.specs.Telling.{holder, told_all, ticket_at, ticket_of, told}
-use Rattle.sbp_world.specs.Worlds.{WorldState}
-use Rattle.sbp_world.specs.Agents.Alike.{answers, has_list}
 use Rattle.sbp_world.proofs.Agents.Management.Still.{hist}
-use Rattle.sbp_world.specs.Hosts.Handing.{AreOthers}
-use Rattle.sbp_world.specs.Lists.DataWrites.{DataSo, IsPieceOf, IsDry}
-use Rattle.sbp_world.specs.Lists.Needs.{IsFor, machine_at, initiator_in}
-use Rattle.sbp_world.specs.Lists.OwnLogins.{IsLoginFifo}
 use Rattle.sbp_world.proofs.Lists.DataCalls.{WroteSo, delivery_wrote, lapse_wrote, manages, steps_so, to_logins, IsFirstRun, RunsFirst}
 use Rattle.sbp_world.proofs.Lists.DataFollows.{AllFifo, AllSo, IsBy, of_step, to_fifo}
 use Rattle.sbp_world.proofs.Lists.DataSteps.{reply_piece, ArePrepared, IsFirstNow, IsTurnNow, answer_kept, answers_now, now_first, now_follows, ran_now, ran_well, reply_turn, reply_slot}
@@ -74,28 +31,10 @@ use Rattle.sbp_world.proofs.Lists.StatusTurn.{Behind, IsFirst, Up, got_first, ig
 use Rattle.sbp_world.proofs.Lists.Turns.{Ready}
 use Rattle.sbp_journal.specs.declared.cause.Judged.TheVariants as judgements
 use Rattle.sbp_world.proofs.Lists.DataHears.{AreHeard}
-use Rattle.std.specs.Prelude.{slice_index_or}
-use Rattle.std.proofs.lemmas.Bool.Decides.{nat_tests}
-use Rattle.std.proofs.lemmas.Option.{none-some, same_Some}
-use Rattle.orb_list.specs.Lists.{last_at}
-use Rattle.orb_list.specs.Tickets.{TicketParts}
-use Rattle.rbc_command.specs.declared.sense.Sense.{Sense}
-use Rattle.rbc_disk.specs.declared.command.Outcome.{Outcome}
-use Rattle.sbp_bus.specs.declared.places.Holder.{Holder}
-use Rattle.sbp_bus.specs.Places.{holder_at}
-use Rattle.sbp_bus.specs.Telling.{list_in, orb_in, ran_note}
-use Rattle.sbp_bus.specs.Words.{check_of}
-use Rattle.sbp_initiator.specs.declared.state.InitiatorState.{InitiatorState}
-use Rattle.sbp_initiator.specs.Initiators.{new_state}
-use Rattle.sbp_journal.specs.Wire.{terms}
-use Rattle.sbp_laws.specs.Lists.{command_at, linked, orb, present_list, slot_at}
-use Rattle.sbp_target.specs.Telling.{orb_of}
-use Rattle.sbp_world.specs.Lists.SlotsStay.{HasSlot}
 use Rattle.sbp_world.proofs.Lists.Extends.{all_told as all_extends}
 use Rattle.sbp_world.proofs.Lists.OpenWorlds.{hist_on}
 use Rattle.sbp_world.proofs.Lists.StatusMoments.{latest_of}
 use Rattle.sbp_world.proofs.Lists.Full.{IsFull}
-use Rattle.orb_layout.specs.declared.status.StatusKind.{StatusKind}
 use Rattle.sbp_world.proofs.Lists.DataOpen.{none_ended, told_open}
 use Rattle.sbp_world.proofs.Lists.EndTells.{AreMild, EndedBy, TellsEnd, delivery_ends, of_end, of_mild}
 use Rattle.sbp_world.proofs.Lists.RunTells.{delivery_may, served_there}

@@ -1,36 +1,15 @@
 -- What a reply answers that an agent gets while it writes an answer: the write of the chunk for which it waits.
-use Rattle.std.proofs.Common.{◌≡◌, ◌∙◌, sym, ap, subst, ◌<◌, ℕ, suc, Bool, false, List, ◌∷◌, length, Some, true}
-use Rattle.std.proofs.lemmas.Option.{same_Some}
-use Rattle.async_packet.specs.Labels.{LabelParts}
-use Rattle.async_packet.specs.Packet.{Packet, header_in}
+use Rattle.sbp_world.proofs.Words.Std.{◌≡◌, ◌∙◌, sym, ap, subst, ◌<◌, ℕ, suc, Bool, false, List, ◌∷◌, length, Some, true, same_Some}
+use Rattle.sbp_world.proofs.Words.Wire.{LabelParts, Packet, header_in, judging_step, of_response, Sent, found_sent, Access, Moment, asked, request, Terms, opened, terms, Event}
+use Rattle.sbp_world.proofs.Words.Target.{Main, answer_chunk, Disk, which_in, desk_at, answer_in}
+use Rattle.sbp_world.proofs.Words.Initiator.{Answer}
+use Rattle.sbp_world.proofs.Words.Laws.{access_at, answered_at, begun_in, is_under_way, receiver_in, sender_in, agent_at, over, target_at}
+use Rattle.sbp_world.proofs.Words.World.{holder, WorldState, initiator_at, without_notes, serial_of, HoldsOrbs, IsNextChunk, IsCalm, OpenLists, initiator_in, machine_at}
 use Rattle.command_agent.specs.declared.phase.Phase.TheVariants as phases
-use Rattle.command_agent.specs.declared.step.Which.TheVariants.{Main}
-use Rattle.command_agent.specs.Steps.{answer_chunk}
-use Rattle.label_table.specs.Layer.{judging_step, of_response}
-use Rattle.orb_layout.specs.Replies.{Answer}
-use Rattle.packet_store.specs.declared.sent.Sent.{Sent}
-use Rattle.packet_store.specs.Kept.{found_sent}
-use Rattle.rbc_disk.specs.Disk.{Disk}
-use Rattle.sbp_journal.specs.Addresses.{Access}
-use Rattle.sbp_journal.specs.Run.{Moment, asked}
-use Rattle.sbp_journal.specs.Transactions.{request}
-use Rattle.sbp_journal.specs.Wire.{Terms, opened, terms}
-use Rattle.sbp_journal.specs.declared.event.Event.{Event}
-use Rattle.sbp_laws.specs.Packets.{access_at, answered_at, begun_in, is_under_way, receiver_in, sender_in}
 use Rattle.sbp_laws.specs.Packets as laws
-use Rattle.sbp_laws.specs.Targets.{agent_at, over, target_at}
 use Rattle.sbp_target.specs.declared.purpose.Purpose.TheVariants as purposes
-use Rattle.sbp_target.specs.Desks.{which_in}
-use Rattle.sbp_target.specs.Nodes.{desk_at}
-use Rattle.sbp_target.specs.Receiving.{answer_in}
-use Rattle.sbp_world.specs.Telling.{holder}
-use Rattle.sbp_world.specs.Worlds.{WorldState, initiator_at, without_notes}
-use Rattle.sbp_world.specs.Agents.AskedRuns.{serial_of}
 use Rattle.sbp_world.proofs.Agents.Management.Holding.{Holding}
 use Rattle.sbp_world.proofs.Agents.Management.Still.{hist}
-use Rattle.sbp_world.specs.Hosts.Orbs.{HoldsOrbs}
-use Rattle.sbp_world.specs.Lists.DataWrites.{IsNextChunk}
-use Rattle.sbp_world.specs.Lists.Needs.{IsCalm, OpenLists, initiator_in, machine_at}
 use Rattle.sbp_world.proofs.Lists.DataPieces.{next_chunk, next_size}
 use Rattle.sbp_world.proofs.Lists.Heard.{closed, request_to, tells, waiting, waits_so}
 use Rattle.sbp_world.proofs.Lists.Sites.{Site, Waiting, waiting as agent_waiting}

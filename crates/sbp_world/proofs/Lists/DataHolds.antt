@@ -1,26 +1,13 @@
 -- A write of data is of an ORB whose slot has it until its status is taken, while its initiator is in the generation of the write.
-use Rattle.std.proofs.Common.{arith, ◌≡◌, ◌∙◌, refl, sym, ap, subst, inl, inr, ◌⊎◌, ◌<◌, ◌≤◌, ◌==◌, ℕ, suc, Bool, true, false, List, [], ◌∷◌, ◌++◌, length, Some, None}
-use Rattle.std.proofs.lemmas.Option.{none-some}
-use Rattle.bus_transactions.specs.Packets.{SerialsCount}
-use Rattle.rbc_disk.specs.Disk.{Disk}
+use Rattle.sbp_world.proofs.Words.Std.{arith, ◌≡◌, ◌∙◌, refl, sym, ap, subst, inl, inr, ◌⊎◌, ◌<◌, ◌≤◌, ◌==◌, ℕ, suc, Bool, true, false, List, [], ◌∷◌, ◌++◌, length, Some, None, none-some}
+use Rattle.sbp_world.proofs.Words.Wire.{SerialsCount, Moment, said, Sending, terms}
+use Rattle.sbp_world.proofs.Words.Target.{Disk}
+use Rattle.sbp_world.proofs.Words.Laws.{Orb, is_over, orb, taken_at, ends, runs, EachMoment}
+use Rattle.sbp_world.proofs.Words.World.{moments_behind, Run, beginning, WorldState, more_deliveries, Always, Under, WhereTameOrFew, AllDataHeld, AreDataHeld, AllDataSo, DataSo, IsDataWrite, WasPiece, HasSlot, IsGone, saw, was_over, IsToHost, IsTameOrFew, UnderFrom}
 use Rattle.sbp_journal.specs.declared.note.Note.TheVariants as notes
-use Rattle.sbp_journal.specs.Run.{Moment, said}
-use Rattle.sbp_journal.specs.Transactions.{Sending}
-use Rattle.sbp_journal.specs.Wire.{terms}
-use Rattle.sbp_laws.specs.Lists.{Orb, is_over, orb, taken_at}
-use Rattle.sbp_laws.specs.Terms.{ends, runs}
-use Rattle.sbp_laws.specs.Turns.{EachMoment}
-use Rattle.sbp_world.specs.Histories.{moments_behind}
-use Rattle.sbp_world.specs.Runs.{Run, beginning}
-use Rattle.sbp_world.specs.Worlds.{WorldState}
 use Rattle.sbp_world.proofs.Agents.Management.Still.{hist}
-use Rattle.sbp_world.specs.Hosts.Runs.{more_deliveries}
 use Rattle.sbp_world.proofs.Hosts.SentMoments.{WasSent, sent_moment}
-use Rattle.sbp_world.specs.Lists.Closes.{Always, Under, WhereTameOrFew}
-use Rattle.sbp_world.specs.Lists.DataHolds.{AllDataHeld, AreDataHeld, IsOfOrb}
-use Rattle.sbp_world.specs.Lists.DataWrites.{AllDataSo, DataSo, IsDataWrite, WasPiece}
-use Rattle.sbp_world.specs.Lists.SlotsStay.{HasSlot, IsGone, saw, was_over}
-use Rattle.sbp_world.specs.Lists.Statuses.{IsToHost}
+use Rattle.sbp_world.specs.Lists.DataHolds.{IsOfOrb}
 use Rattle.sbp_world.proofs.Lists.DataTurns.{ran_on}
 use Rattle.sbp_world.proofs.Lists.Rises.{Rises}
 use Rattle.sbp_world.proofs.Lists.SlotsHeld.{slots_stay_law}
@@ -28,9 +15,7 @@ use Rattle.sbp_world.proofs.Lists.StatusKnown.{each_from, generation_grows, unli
 use Rattle.sbp_world.proofs.Lists.StatusMoments.{HasTaken, over_taken, taken_stays}
 use Rattle.sbp_world.proofs.Lists.StatusRuns.{rises_of}
 use Rattle.sbp_world.proofs.Lists.TameWalks.{from_after, from_between}
-use Rattle.sbp_world.specs.Lists.FewLogins.{IsTameOrFew}
 use Rattle.sbp_world.proofs.Lists.Beside.{tame_or_few_before}
-use Rattle.sbp_world.specs.Lists.Closes.{UnderFrom}
 use Rattle.sbp_world.proofs.Lists.Walks.{Walks}
 use Rattle.sbp_world.proofs.Common.{moments_split, delivers}
 

@@ -1,16 +1,10 @@
 -- The chunks of a buffer that is laid out for a command (NCITS 325-1998, page tables): one that begins elsewhere stands elsewhere; and a chunk ends with the buffer at most.
-use Rattle.std.proofs.Common.{arith, ◌≡◌, ◌∙◌, refl, sym, ap, ◌<◌, ◌≤◌, ◌+◌, ◌-◌, ◌==◌, ℕ, nat_lt, min, Bool, true, false, cond, List, [], ◌∷◌, Option, Some, None}
-use Rattle.std.proofs.lemmas.Bool.Decides.{nat_tests}
-use Rattle.std.proofs.lemmas.Bool.{false≢true}
-use Rattle.bus_memory.specs.Windows.{start}
+use Rattle.sbp_world.proofs.Words.Std.{arith, ◌≡◌, ◌∙◌, refl, sym, ap, ◌<◌, ◌≤◌, ◌+◌, ◌-◌, ◌==◌, ℕ, nat_lt, min, Bool, true, false, cond, List, [], ◌∷◌, Option, Some, None, nat_tests, false≢true}
+use Rattle.sbp_world.proofs.Words.Wire.{Cmd}
+use Rattle.sbp_world.proofs.Words.Target.{cut_to}
+use Rattle.sbp_world.proofs.Words.Initiator.{start, behind, Chunk, Segment, bytes_of, chunk, chunk_from, single}
+use Rattle.sbp_world.proofs.Words.Laws.{laid_out, placed}
 use Rattle.bus_memory.specs.declared.window.Window.TheVariants as windows
-use Rattle.command_agent.specs.Machine.{cut_to}
-use Rattle.orb_list.specs.Layout.{behind}
-use Rattle.page_table.specs.declared.segment.Chunk.{Chunk}
-use Rattle.page_table.specs.declared.segment.Segment.{Segment}
-use Rattle.page_table.specs.Buffer.{bytes_of, chunk, chunk_from, single}
-use Rattle.sbp_journal.specs.declared.event.Cmd.{Cmd}
-use Rattle.sbp_laws.specs.CarriedBytes.{laid_out, placed}
 
 same_chunk : (a b : Chunk) → Some a ≡ Some b → a ≡ b
 same_chunk a b e = cc

@@ -1,45 +1,27 @@
 -- In every run in which no initiator injected packets, or few logins were given, the target sent the data of answers as they are to be sent, where the lines name units of 16 bits.
-use Rattle.sbp_world.specs.Lists.Closes.{UnderFrom}
-use Rattle.std.proofs.Common.{sym, ℕ, suc, ◌<◌, List, length}
-use Rattle.rbc_disk.specs.Disk.{Disk}
-use Rattle.sbp_bus.specs.Generations.{topology_at}
+use Rattle.sbp_world.proofs.Words.Std.{sym, ℕ, suc, ◌<◌, List, length}
+use Rattle.sbp_world.proofs.Words.Wire.{topology_at, Moment}
+use Rattle.sbp_world.proofs.Words.Target.{Disk}
+use Rattle.sbp_world.proofs.Words.World.{UnderFrom, IsCalmBeside, IsTameOrFew, WorldState, GoodEndsLaw, AllCutApart, AnswersBroughtLaw, AnswersHoldLaw, AnswerLengthsLaw, OpenListsLaw, AreUntaken, Under, WhereTameOrFew, DataGotsLaw, ServedGotLaw, DataSequenceLaw, DataServedLaw, AllStatuses, AreShort, AllDataSo, AllEndSo, AllDataHeld}
 use Rattle.sbp_world.proofs.Wire.Bus.{node_has}
-use Rattle.sbp_world.specs.Lists.FewLogins.{IsCalmBeside, IsTameOrFew}
 use Rattle.sbp_world.proofs.Lists.Beside.{AreDone, done_based}
 use Rattle.sbp_world.proofs.Lists.OwnNodes.{AreOwnNodes, nodes_everywhere}
-use Rattle.sbp_journal.specs.Run.{Moment}
-use Rattle.sbp_world.specs.Worlds.{WorldState}
-use Rattle.sbp_world.specs.Lists.EndsWell.{GoodEndsLaw}
-use Rattle.sbp_world.specs.Lists.CutSlots.{AllCutApart}
 use Rattle.sbp_world.proofs.Lists.SlotsCutRuns.{cut_apart_law}
 use Rattle.sbp_world.proofs.Lists.StatusRested.{grounds_law}
 use Rattle.sbp_world.proofs.Sessions.Runs.{joined_law}
 use Rattle.sbp_world.proofs.Lists.GoodEnds.{good_ends_law}
-use Rattle.sbp_world.specs.Lists.AnswersCarried.{AnswersBroughtLaw}
 use Rattle.sbp_world.proofs.Lists.AnswersCarriedRuns.{answers_brought_law, whole_law}
 use Rattle.sbp_world.proofs.Lists.AnswersHold.{answers_hold_law}
-use Rattle.sbp_world.specs.Lists.AnswersHold.{AnswersHoldLaw}
-use Rattle.sbp_world.specs.Lists.AnswerLengths.{AnswerLengthsLaw}
-use Rattle.sbp_world.specs.Lists.Closes.{OpenListsLaw}
-use Rattle.sbp_world.specs.Lists.Closes.{AreUntaken, Under, WhereTameOrFew}
-use Rattle.sbp_world.specs.Lists.DataGots.{DataGotsLaw, ServedGotLaw}
-use Rattle.sbp_world.specs.Lists.DataSequences.{DataSequenceLaw}
-use Rattle.sbp_world.specs.Lists.DataServes.{DataServedLaw}
-use Rattle.sbp_world.specs.Lists.Statuses.{AllStatuses}
 use Rattle.sbp_world.proofs.Lists.DataServing.{data_gots_law, data_sequence_law, data_served_law, served_got_law}
-use Rattle.sbp_world.specs.Lists.Shorts.{AreShort}
 use Rattle.sbp_world.proofs.Lists.LiveGiven.{ShortLaw, shorts_everywhere}
 use Rattle.sbp_world.proofs.Lists.LiveLogins.{logins_known}
-use Rattle.sbp_world.specs.Lists.DataWrites.{AllDataSo}
 use Rattle.sbp_world.proofs.Lists.DataClears.{DryAt, dry_everywhere}
 use Rattle.sbp_world.proofs.Lists.DataPlaces.{AllOfficeDry, data_sent}
 use Rattle.sbp_world.proofs.Lists.LiveShort.{here_beside, placed_beside}
 use Rattle.sbp_world.proofs.Lists.OpenedKnown as opened_known
 use Rattle.sbp_world.proofs.Lists.StatusPlaces as places
-use Rattle.sbp_world.specs.Lists.DataEnds.{AllEndSo}
 use Rattle.sbp_world.proofs.Lists.DataOver.{ends_law}
 use Rattle.sbp_world.proofs.Lists.StatusProved.{AreNames, ground_law}
-use Rattle.sbp_world.specs.Lists.DataHolds.{AllDataHeld}
 use Rattle.sbp_world.proofs.Lists.DataHolds.{held_law}
 
 all_office : (start : List Disk) (past : List Moment) (w : WorldState) → DryAt past w → AreOwnNodes start past w → AreShort past → ((i : ℕ) → i < length w.initiators → IsCalmBeside past i → AreDone start (length w.initiators) past i) → IsTameOrFew past → AllOfficeDry past w

@@ -1,57 +1,20 @@
 -- Each line of a world in which the target sends nothing, and each second and generation that it sees, leave the data that it sent to an initiator as they were.
-use Rattle.rbc_disk.specs.Disk.{Disk}
-use Rattle.std.proofs.Common.{arith, ◌≡◌, refl, sym, subst, ℕ, suc, ◌+◌, ◌-◌, ◌==◌, nat_lt, Bool, true, false, cond, List, [], ◌∷◌, length, Option, Some, None, ◌∙◌, ap, zero, ◌||◌, not, ◌<◌, ◌≤◌}
-use Rattle.std.specs.Prelude.{if◌then◌else◌, slice_set}
-use Rattle.std.specs.List.{AllByRecursion}
-use Rattle.std.proofs.lemmas.Bool.Decides.{nat_tests}
-use Rattle.std.proofs.lemmas.Bool.{false≢true}
-use Rattle.async_packet.specs.Labels.{LabelParts}
-use Rattle.sbp_world.specs.Hosts.Handing.{AreOthers, history}
+use Rattle.sbp_world.proofs.Words.Std.{arith, ◌≡◌, refl, sym, subst, ℕ, suc, ◌+◌, ◌-◌, ◌==◌, nat_lt, Bool, true, false, cond, List, [], ◌∷◌, length, Option, Some, None, ◌∙◌, ap, zero, ◌||◌, not, ◌<◌, ◌≤◌, if◌then◌else◌, slice_set, AllByRecursion, nat_tests, false≢true}
+use Rattle.sbp_world.proofs.Words.Wire.{LabelParts, Request, id_of, node_of, judged_note, no_node, no_packet, find, OutboxState, empty_outbox, Moment, said, Action, Note, Outgoing, Side, Layer, seeing_step, Sent, found_sent, is_flying, deliver_step, Judged}
+use Rattle.sbp_world.proofs.Words.Target.{Disk, NodeState, scene, received, seen, ticked, with_key, tick_step, Purpose, Told}
+use Rattle.sbp_world.proofs.Words.Initiator.{act_step, Turn, expire_step, receive_step, see_step}
+use Rattle.sbp_world.proofs.Words.Laws.{EachMoment}
+use Rattle.sbp_world.proofs.Words.World.{AreOthers, history, handed_out, acted, acted_by, keyed, no_unit, weight_in, handed_all, initiator_learns, reset_line, see_line, sees, target_learns, target_ticks, tick_line, told_seen, with_seen, at_initiator, expires, initiator_expires, inject_line, injected, injected_to, is_in_flight, lose_line, lost, refused, target_expired, target_left, timed_out, timeout_line, timeout_of, asked_for, posted, sent, sent_all, sent_to, told, told_all, Scene, WorldState, initiator_at, with_initiator, with_note, with_target, DataSo, IsDataWrite, Arrival, arrived, at_target, delivered, delivered_by, initiator_received, initiators_received, marked, received_by, received_step, target_received, whole_of, with_initiators}
 use Rattle.sbp_world.proofs.Hosts.ActLeft.{act_left}
 use Rattle.sbp_world.proofs.Hosts.Hands.{second_tells, sight_tells}
 use Rattle.sbp_world.proofs.Hosts.Layered.{AreTame, expire_left, is_tame, receive_left}
 use Rattle.sbp_world.proofs.Hosts.PointSees.{see_left}
-use Rattle.sbp_bus.specs.declared.requests.Request.{Request}
-use Rattle.sbp_bus.specs.Generations.{id_of, node_of}
-use Rattle.sbp_bus.specs.Packets.{judged_note, no_node, no_packet}
-use Rattle.sbp_bus.specs.Requests.{find}
-use Rattle.sbp_initiator.specs.Acting.{act_step}
-use Rattle.sbp_initiator.specs.Effects.{Turn}
-use Rattle.sbp_initiator.specs.Receiving.{expire_step, receive_step}
-use Rattle.sbp_initiator.specs.Seeing.{see_step}
-use Rattle.sbp_journal.specs.Outgoings.{OutboxState, empty_outbox}
-use Rattle.sbp_journal.specs.Run.{Moment, said}
-use Rattle.sbp_journal.specs.declared.event.Action.{Action}
-use Rattle.sbp_journal.specs.declared.note.Note.{Note}
 use Rattle.sbp_journal.specs.declared.note.Note.TheVariants as notes
-use Rattle.sbp_journal.specs.declared.outbox.Outgoing.{Outgoing}
-use Rattle.sbp_journal.specs.declared.side.Side.{Side}
 use Rattle.sbp_journal.specs.declared.side.Side.TheVariants as sides
-use Rattle.sbp_target.specs.Nodes.{NodeState, scene}
-use Rattle.sbp_target.specs.Receiving.{received, seen, ticked, with_key}
-use Rattle.sbp_world.specs.Handing.{handed_out}
-use Rattle.sbp_world.specs.Lines.{acted, acted_by, keyed, no_unit, weight_in}
-use Rattle.sbp_world.specs.Nodes.{handed_all, initiator_learns, reset_line, see_line, sees, target_learns, target_ticks, tick_line, told_seen, with_seen}
 use Rattle.sbp_world.specs.Nodes as nodes
-use Rattle.sbp_world.specs.Packets.{at_initiator, expires, initiator_expires, inject_line, injected, injected_to, is_in_flight, lose_line, lost, refused, target_expired, target_left, timed_out, timeout_line, timeout_of}
 use Rattle.sbp_world.specs.Packets as packets
-use Rattle.sbp_world.specs.Sending.{asked as asked_for, posted, sent, sent_all, sent_to}
-use Rattle.sbp_world.specs.Telling.{told, told_all}
-use Rattle.sbp_world.specs.Worlds.{Scene, WorldState, initiator_at, with_initiator, with_note, with_target}
-use Rattle.label_table.specs.Layer.{Layer, seeing_step}
-use Rattle.login_table.specs.Table.{tick_step}
-use Rattle.sbp_laws.specs.Turns.{EachMoment}
-use Rattle.sbp_target.specs.declared.purpose.Purpose.{Purpose}
 use Rattle.sbp_target.proofs.Histories.Pass.{Leaves, sees_by, ticks_by}
-use Rattle.sbp_world.specs.Lists.DataWrites.{DataSo, IsDataWrite}
-use Rattle.packet_store.specs.declared.sent.Sent.{Sent}
-use Rattle.packet_store.specs.Kept.{found_sent, is_flying}
-use Rattle.packet_store.specs.Stored.{deliver_step}
-use Rattle.rbc_disk.specs.Runs.{Told}
-use Rattle.sbp_journal.specs.declared.cause.Judged.{Judged}
 use Rattle.sbp_journal.specs.declared.cause.Judged.TheVariants as judgements
-use Rattle.sbp_world.specs.declared.parts.delivering.Arrival.{Arrival}
-use Rattle.sbp_world.specs.Delivering.{arrived, at_target, delivered, delivered_by, initiator_received, initiators_received, marked, received_by, received_step, target_received, whole_of, with_initiators}
 use Rattle.sbp_world.proofs.Wire.Comes.{own_inside, own_outside, received_is, to_own, to_zero}
 
 -- packets write into no buffer

@@ -1,57 +1,27 @@
 -- What the management writes as it goes on: into no buffer, where its write is to none; and behind a time-out it writes nothing. So the data that are sent are as they are to
 -- be.
-use Rattle.rbc_disk.specs.Disk.{Disk}
-use Rattle.std.proofs.Common.{arith, ◌≡◌, ◌∙◌, refl, sym, ap, subst, ◌≤◌, ◌==◌, nat_le, ℕ, suc, Bool, true, false, cond, List, [], ◌∷◌, ◌++◌, length, Option, Some, None}
-use Rattle.std.proofs.lemmas.Bool.Decides.{nat_tests}
-use Rattle.std.proofs.lemmas.Bool.{false≢true}
+use Rattle.sbp_world.proofs.Words.Std.{arith, ◌≡◌, ◌∙◌, refl, sym, ap, subst, ◌≤◌, ◌==◌, nat_le, ℕ, suc, Bool, true, false, cond, List, [], ◌∷◌, ◌++◌, length, Option, Some, None, nat_tests, false≢true}
+use Rattle.sbp_world.proofs.Words.Wire.{Asked, Body, block_read, block_write, quadlet_read, quadlet_write, Layer, asking_step, node_of, Note, Outgoing, Moment, LabelParts, Packet, judging_step, of_response, Sent}
+use Rattle.sbp_world.proofs.Words.Target.{Disk, Table, ManagerStep, Operation, Purpose, ask_manager, decided_by, failed_by, manage, managed_in, managed_with, manager_asked, manager_body, manager_sent, with_manager, Scene, scene, request_step, sent_by, answer_in}
+use Rattle.sbp_world.proofs.Words.Initiator.{Ask, Answer, window_at, Expired}
+use Rattle.sbp_world.proofs.Words.Laws.{access_in_bytes, EachMoment, is_write_in}
+use Rattle.sbp_world.proofs.Words.World.{handed_out, WorldState, AreOthers, DataSo, IsDataWrite, IsFor, told_all}
 use Rattle.bus_memory.specs.declared.window.Window.TheVariants as windows
-use Rattle.label_table.specs.declared.judgement.Asked.{Asked}
-use Rattle.label_table.specs.Bodies.{Body, block_read, block_write, quadlet_read, quadlet_write}
-use Rattle.label_table.specs.Layer.{Layer, asking_step}
-use Rattle.login_table.specs.Table.{Table}
-use Rattle.mgmt_agent.specs.declared.decision.ManagerStep.{ManagerStep}
-use Rattle.mgmt_agent.specs.declared.operation.Operation.{Operation}
 use Rattle.mgmt_agent.specs.Machine as management
-use Rattle.orb_layout.specs.declared.ask.Ask.{Ask}
 use Rattle.orb_layout.specs.declared.ask.Ask.TheVariants as asks
-use Rattle.orb_layout.specs.Replies.{Answer}
-use Rattle.sbp_bus.specs.Generations.{node_of}
-use Rattle.sbp_journal.specs.declared.note.Note.{Note}
-use Rattle.sbp_journal.specs.declared.outbox.Outgoing.{Outgoing}
-use Rattle.sbp_journal.specs.Run.{Moment}
-use Rattle.sbp_laws.specs.Packets.{access_in_bytes}
-use Rattle.sbp_laws.specs.Turns.{EachMoment}
-use Rattle.sbp_target.specs.declared.purpose.Purpose.{Purpose}
 use Rattle.sbp_target.specs.declared.purpose.Purpose.TheVariants as purposes
-use Rattle.sbp_target.specs.Management.{ask_manager, decided_by, failed_by, manage, managed_in, managed_with, manager_asked, manager_body, manager_sent, with_manager}
-use Rattle.sbp_target.specs.Nodes.{Scene, scene}
-use Rattle.sbp_target.specs.Sending.{request_step, sent_by}
-use Rattle.sbp_world.specs.Handing.{handed_out}
-use Rattle.sbp_world.specs.Worlds.{WorldState}
 use Rattle.sbp_world.proofs.Agents.Management.Still.{hist}
-use Rattle.sbp_world.specs.Hosts.Handing.{AreOthers}
 use Rattle.sbp_world.proofs.Lists.StatusActs.{first}
 use Rattle.sbp_world.proofs.Lists.StatusBytes.{written_at, wrote}
 use Rattle.sbp_world.proofs.Lists.StatusReads.{IsOfBody, IsRead, asked_body, body_reads}
-use Rattle.async_packet.specs.Labels.{LabelParts}
-use Rattle.async_packet.specs.Packet.{Packet}
-use Rattle.sbp_laws.specs.OnceLaw.{is_write_in}
-use Rattle.bus_memory.specs.Windows.{window_at}
-use Rattle.label_table.specs.Layer.{judging_step, of_response}
-use Rattle.packet_store.specs.declared.sent.Sent.{Sent}
-use Rattle.orb_layout.specs.Replies.{Expired}
 use Rattle.mgmt_agent.specs.declared.operation.Phase.{Phase}
 use Rattle.mgmt_agent.specs.declared.operation.Phase.TheVariants as phases
-use Rattle.sbp_target.specs.Receiving.{answer_in}
-use Rattle.sbp_world.specs.Lists.DataWrites.{DataSo, IsDataWrite}
-use Rattle.sbp_world.specs.Lists.Needs.{IsFor}
 use Rattle.sbp_world.proofs.Lists.DataHeard.{AreOwnFor, Due, hands, HaveSlots}
 use Rattle.sbp_world.proofs.Lists.DataWalk.{Given}
 use Rattle.sbp_world.proofs.Lists.RunOutcomes.{AreAsked}
 use Rattle.sbp_world.proofs.Lists.StatusOffice.{Kept, decided_kept, failed_kept}
 use Rattle.sbp_world.proofs.Lists.StatusTurn.{Behind, IsFirst}
 use Rattle.sbp_world.proofs.Lists.Turns.{Ready}
-use Rattle.sbp_world.specs.Telling.{told_all}
 use Rattle.sbp_world.proofs.Lists.StatusSteps.{none_wrote}
 use Rattle.sbp_world.proofs.Lists.StatusCalls.{lose_packets as lose_none}
 

@@ -1,36 +1,17 @@
 -- At each place of a run in which no initiator injected packets, and before which lists were open as they should be, each end of an ORB, but as failed, was of one that had
 -- not run before its turn, or of one whose last chunk of the answer was written then.
-use Rattle.std.proofs.Common.{arith, ◌≡◌, ◌∙◌, refl, sym, ap, subst, ◌<◌, ℕ, Bool, true, false, List, [], ◌∷◌, ◌++◌, map, length, Option, Some, None}
-use Rattle.std.proofs.lemmas.Bool.{false≢true}
-use Rattle.std.proofs.lemmas.Option.{same_Some}
+use Rattle.sbp_world.proofs.Words.Std.{arith, ◌≡◌, ◌∙◌, refl, sym, ap, subst, ◌<◌, ℕ, Bool, true, false, List, [], ◌∷◌, ◌++◌, map, length, Option, Some, None, false≢true, same_Some}
+use Rattle.sbp_world.proofs.Words.Wire.{end_note, list_in, orb_in, Event, Note, Moment, asked, said}
+use Rattle.sbp_world.proofs.Words.Target.{Disk, Told}
+use Rattle.sbp_world.proofs.Words.Initiator.{StatusKind}
+use Rattle.sbp_world.proofs.Words.Laws.{ends, runs, EachMoment}
+use Rattle.sbp_world.proofs.Words.World.{moments_behind, MayHappen, happens, is_in_flight, may_repeat, Run, beginning, MayNext, delivered_at, delivered_next, lowest, holder, ticket_at, IsLine, Scene, WorldState, begun, without_notes, more_deliveries, Always, Under, AllEndSo, EndSo, WasWritten, is_behind, is_fresh, IsWritten, AreDry, IsAnswered, IsDry, IsFor, initiator_in, machine_at, AreWhole}
 use Rattle.login_table.proofs.Searching.{within}
-use Rattle.orb_layout.specs.declared.status.StatusKind.{StatusKind}
 use Rattle.orb_layout.specs.declared.status.StatusKind.TheVariants as kinds
-use Rattle.rbc_disk.specs.Disk.{Disk}
-use Rattle.rbc_disk.specs.Runs.{Told}
-use Rattle.sbp_bus.specs.Packets.{end_note}
-use Rattle.sbp_bus.specs.Telling.{list_in, orb_in}
-use Rattle.sbp_journal.specs.declared.event.Event.{Event}
 use Rattle.sbp_journal.specs.declared.event.Event.TheVariants as events
-use Rattle.sbp_journal.specs.declared.note.Note.{Note}
 use Rattle.sbp_journal.specs.declared.note.Note.TheVariants as notes
-use Rattle.sbp_journal.specs.Run.{Moment, asked, said}
-use Rattle.sbp_laws.specs.Terms.{ends, runs}
-use Rattle.sbp_laws.specs.Turns.{EachMoment}
-use Rattle.sbp_world.specs.Histories.{moments_behind}
-use Rattle.sbp_world.specs.Lines.{MayHappen, happens}
-use Rattle.sbp_world.specs.Packets.{is_in_flight, may_repeat}
-use Rattle.sbp_world.specs.Runs.{Run, beginning}
-use Rattle.sbp_world.specs.Settling.{MayAt, MayNext, delivered_at, delivered_next, lowest}
-use Rattle.sbp_world.specs.Telling.{holder, ticket_at}
-use Rattle.sbp_world.specs.Wire.Lines.{IsLine}
-use Rattle.sbp_world.specs.Worlds.{Scene, WorldState, begun, without_notes}
+use Rattle.sbp_world.specs.Settling.{MayAt}
 use Rattle.sbp_world.proofs.Agents.Management.Still.{hist}
-use Rattle.sbp_world.specs.Hosts.Runs.{more_deliveries}
-use Rattle.sbp_world.specs.Lists.Closes.{Always, Under}
-use Rattle.sbp_world.specs.Lists.DataEnds.{AllEndSo, EndSo, WasWritten, is_behind, is_fresh, IsWritten}
-use Rattle.sbp_world.specs.Lists.DataWrites.{AreDry, IsAnswered, IsDry}
-use Rattle.sbp_world.specs.Lists.Needs.{IsFor, initiator_in, machine_at}
 use Rattle.sbp_world.proofs.Lists.DataHears.{AreHeard, heard_asked, heard_there}
 use Rattle.sbp_world.proofs.Lists.DataSteps.{IsEndNow, end_named, ends_behind, ends_fresh, reply_ends}
 use Rattle.sbp_world.proofs.Lists.Endless.{AllLight, AllPlain, Delivers, IsEndBy, IsLightNote, IsPlain, OneEnd, Plainly, delivery_comes, light_death, light_plain, light_run, no_end, one_comes, one_end}
@@ -45,7 +26,6 @@ use Rattle.sbp_world.proofs.Lists.Walks.{walked_after, walked_between}
 use Rattle.sbp_world.proofs.Lists.Turned.{IsOne}
 use Rattle.sbp_world.proofs.Lists.Turns.{Ready}
 use Rattle.sbp_world.proofs.Lists.Walks.{Turn, Walks, by_delivery, by_end, by_line, by_start}
-use Rattle.sbp_world.specs.Lists.DataWhole.{AreWhole}
 use Rattle.sbp_world.proofs.Lists.DataProved.{full_of}
 use Rattle.sbp_world.proofs.Lists.DataWhole.{whole_law}
 use Rattle.sbp_world.proofs.Lists.Full.{IsFull}

@@ -1,43 +1,16 @@
 -- At each place of a run, the write that an agent along a list waits for while it writes its answer is of the next chunk of the buffer of its present ORB.
-use Rattle.std.proofs.Common.{arith, ◌≡◌, ◌∙◌, sym, ap, subst, ◌<◌, ◌≤◌, ◌+◌, ◌-◌, ◌^◌, ℕ, Bool, true, false, List, length, take, drop, Some}
-use Rattle.std.proofs.lemmas.Option.{same_Some}
-use Rattle.command_agent.specs.declared.phase.Phase.{Phase}
+use Rattle.sbp_world.proofs.Words.Std.{arith, ◌≡◌, ◌∙◌, sym, ap, subst, ◌<◌, ◌≤◌, ◌+◌, ◌-◌, ◌^◌, ℕ, Bool, true, false, List, length, take, drop, Some, same_Some}
+use Rattle.sbp_world.proofs.Words.Wire.{Access, Moment, terms, Cmd}
+use Rattle.sbp_world.proofs.Words.Target.{Phase, Main, Machine, chunk_of, cut_to, limit_of, writes_status, Answers, Knows, Progress, main_ask, main_under, Disk, desk_at, answer_chunk}
+use Rattle.sbp_world.proofs.Words.Initiator.{CommandOrb, window_at, addresses, buffer_addresses, chunk, chunk_from, Chunk, Segment}
+use Rattle.sbp_world.proofs.Words.Laws.{fifo_in, laid_out, command_at, linked, slot_at, Agent, Target, agent_at, term_initiator, term_login, over, target_at, ends, request_at, access_at}
+use Rattle.sbp_world.proofs.Words.World.{holder, WorldState, initiator_at, HasAsked, IsAccessFor, IsOf, HoldsOrbs, IsNextChunk, IsBufferOf, orbs, IsCalm, OpenLists, initiator_in, machine_at, Follows}
 use Rattle.command_agent.specs.declared.phase.Phase.TheVariants as phases
-use Rattle.command_agent.specs.declared.step.Which.TheVariants.{Main}
-use Rattle.command_agent.specs.Machine.{Machine, chunk_of, cut_to, limit_of}
-use Rattle.command_agent.specs.Tasks.{writes_status}
-use Rattle.agent_laws.specs.Along.Along.{Answers, Knows, Progress}
-use Rattle.agent_laws.specs.Along.Requests.{main_ask, main_under}
-use Rattle.orb_layout.specs.declared.command.CommandOrb.{CommandOrb}
 use Rattle.bus_memory.specs.declared.window.Window.TheVariants as windows
-use Rattle.bus_memory.specs.Windows.{window_at}
-use Rattle.page_table.specs.Buffer.{addresses, buffer_addresses, chunk, chunk_from}
 use Rattle.page_table.proofs.Places.{chunk_in_place}
-use Rattle.page_table.specs.declared.segment.Chunk.{Chunk}
-use Rattle.page_table.specs.declared.segment.Segment.{Segment}
-use Rattle.rbc_disk.specs.Disk.{Disk}
-use Rattle.sbp_journal.specs.Addresses.{Access}
-use Rattle.sbp_journal.specs.Run.{Moment}
-use Rattle.sbp_journal.specs.Wire.{terms}
-use Rattle.sbp_journal.specs.declared.event.Cmd.{Cmd}
-use Rattle.sbp_laws.specs.Agents.{fifo_in}
-use Rattle.sbp_laws.specs.CarriedBytes.{laid_out}
-use Rattle.sbp_laws.specs.Lists.{command_at, linked, slot_at}
-use Rattle.sbp_laws.specs.Targets.{Agent, Target, agent_at, initiator_at as term_initiator, login_at as term_login, over, target_at}
-use Rattle.sbp_laws.specs.Terms.{ends, request_at}
-use Rattle.sbp_target.specs.Nodes.{desk_at}
-use Rattle.sbp_world.specs.Telling.{holder}
-use Rattle.sbp_world.specs.Worlds.{WorldState, initiator_at}
 use Rattle.sbp_world.proofs.Agents.AskedAlike.{main_alike, status_alike}
 use Rattle.sbp_world.proofs.Agents.Management.Holding.{Holding}
 use Rattle.sbp_world.proofs.Agents.Management.Still.{hist}
-use Rattle.sbp_world.specs.Agents.AskedRuns.{HasAsked, IsAccessFor}
-use Rattle.sbp_world.specs.Agents.Crews.{IsOf}
-use Rattle.sbp_world.specs.Hosts.Orbs.{HoldsOrbs}
-use Rattle.sbp_world.specs.Lists.DataWrites.{IsNextChunk}
-use Rattle.sbp_world.specs.Lists.Lists.{IsBufferOf, orbs}
-use Rattle.sbp_world.specs.Lists.Needs.{IsCalm, OpenLists, initiator_in, machine_at}
-use Rattle.sbp_world.specs.Hosts.Carrying.{Follows}
 use Rattle.sbp_world.proofs.Lists.Brought.{cut_follows}
 use Rattle.sbp_world.proofs.Lists.Executes.{asked_of}
 use Rattle.sbp_world.proofs.Lists.Passing.{GoesOn}
@@ -45,8 +18,6 @@ use Rattle.sbp_world.proofs.Lists.RunFits.{WasAsked}
 use Rattle.sbp_world.proofs.Lists.Sites.{Site, Waiting, named_prepared, waiting}
 use Rattle.sbp_world.proofs.Lists.Slots.{IsFilled, data_window}
 use Rattle.sbp_world.proofs.Lists.Told.{AgentOn}
-use Rattle.command_agent.specs.Steps.{answer_chunk}
-use Rattle.sbp_laws.specs.Packets.{access_at}
 
 -- ---- the access of a write of an answer
 record IsChunkOf (m : Machine) (access : Access) : Type 0 where

@@ -1,25 +1,14 @@
 -- The data of answers are sent as they are to be in every run in which no initiator injected packets, or few logins were given, where lists were open as they should be before, each live login
 -- for the node of an initiator has a FIFO of a login, and the management asks to write into no buffer of an initiator.
-use Rattle.rbc_disk.specs.Disk.{Disk}
+use Rattle.sbp_world.proofs.Words.Std.{◌≡◌, ◌<◌, ℕ, Bool, false, List, length, Some}
+use Rattle.sbp_world.proofs.Words.Wire.{LabelParts, Packet, judging_step, of_response, Sent, Moment}
+use Rattle.sbp_world.proofs.Words.Target.{Disk, answer_in}
+use Rattle.sbp_world.proofs.Words.Laws.{EachMoment}
+use Rattle.sbp_world.proofs.Words.World.{UnderFrom, PointersLaw, WorldState, without_notes, BegunLaw, AreHere, Under, WhereTameOrFew, AreUntaken, AllDataSo, DataSo, IsCalm, IsFor}
 use Rattle.sbp_world.proofs.Lists.AnswersTold.{there_law}
 use Rattle.sbp_world.proofs.Lists.DataWhole.{all_filled}
-use Rattle.sbp_world.specs.Lists.Closes.{UnderFrom}
-use Rattle.std.proofs.Common.{◌≡◌, ◌<◌, ℕ, Bool, false, List, length, Some}
-use Rattle.async_packet.specs.Labels.{LabelParts}
-use Rattle.async_packet.specs.Packet.{Packet}
-use Rattle.label_table.specs.Layer.{judging_step, of_response}
-use Rattle.packet_store.specs.declared.sent.Sent.{Sent}
-use Rattle.sbp_world.specs.Pointers.Pointers.{PointersLaw}
-use Rattle.sbp_journal.specs.Run.{Moment}
-use Rattle.sbp_laws.specs.Turns.{EachMoment}
 use Rattle.sbp_target.specs.declared.purpose.Purpose.TheVariants as purposes
-use Rattle.sbp_target.specs.Receiving.{answer_in}
-use Rattle.sbp_world.specs.Worlds.{WorldState, without_notes}
 use Rattle.sbp_world.proofs.Agents.Management.Still.{hist}
-use Rattle.sbp_world.specs.Lists.Begun.{BegunLaw}
-use Rattle.sbp_world.specs.Lists.Closes.{AreHere, Under, WhereTameOrFew, AreUntaken}
-use Rattle.sbp_world.specs.Lists.DataWrites.{AllDataSo, DataSo}
-use Rattle.sbp_world.specs.Lists.Needs.{IsCalm, IsFor}
 use Rattle.sbp_world.proofs.Lists.DataOffice.{AreAsksDry, given_data}
 use Rattle.sbp_world.proofs.Lists.DataProved.{Over, data_law}
 use Rattle.sbp_world.proofs.Lists.DataWalk.{Given}

@@ -1,18 +1,12 @@
 -- At each place of a run in which no initiator injected packets, or few logins were given, and before which lists were open as they should be, the target sent the data of answers as they are to be
 -- sent; where this is known of the management.
-use Rattle.std.proofs.Common.{◌≡◌, ◌∙◌, ap, sym, subst, ◌<◌, ℕ, Bool, false, List, [], length, arith}
-use Rattle.rbc_disk.specs.Disk.{Disk}
-use Rattle.sbp_journal.specs.Run.{Moment}
-use Rattle.sbp_laws.specs.Turns.{EachMoment}
-use Rattle.sbp_world.specs.Histories.{moments_behind}
-use Rattle.sbp_world.specs.Runs.{Run, beginning}
-use Rattle.sbp_world.specs.Worlds.{Scene, WorldState, without_notes, initiator_at}
+use Rattle.sbp_world.proofs.Words.Std.{◌≡◌, ◌∙◌, ap, sym, subst, ◌<◌, ℕ, Bool, false, List, [], length, arith}
+use Rattle.sbp_world.proofs.Words.Wire.{Moment, or_nobody}
+use Rattle.sbp_world.proofs.Words.Target.{Disk}
+use Rattle.sbp_world.proofs.Words.Laws.{EachMoment, slot_at}
+use Rattle.sbp_world.proofs.Words.World.{moments_behind, Run, beginning, Scene, WorldState, without_notes, initiator_at, more_deliveries, Always, AreHere, UnderFrom, WhereTameOrFew, AreUntaken, AllDataSo, DataSo, IsCalm, initiator_in, machine_at, IsTameOrFew, AreWhole}
 use Rattle.sbp_world.proofs.Agents.Management.Holding.{target_generation}
 use Rattle.sbp_world.proofs.Agents.Management.Still.{hist}
-use Rattle.sbp_world.specs.Hosts.Runs.{more_deliveries}
-use Rattle.sbp_world.specs.Lists.Closes.{Always, AreHere, UnderFrom, WhereTameOrFew, AreUntaken}
-use Rattle.sbp_world.specs.Lists.DataWrites.{AllDataSo, DataSo}
-use Rattle.sbp_world.specs.Lists.Needs.{IsCalm, initiator_in, machine_at}
 use Rattle.sbp_world.proofs.Lists.DataWalk.{Facts, Given, turn_data}
 use Rattle.sbp_world.proofs.Lists.Executes.{asked_of}
 use Rattle.sbp_world.proofs.Lists.RunOutcomes.{AreAsked}
@@ -20,19 +14,15 @@ use Rattle.sbp_world.proofs.Lists.StatusPoints.{open_acting, open_up}
 use Rattle.sbp_world.proofs.Lists.StatusProved.{AreNames, Ground}
 use Rattle.sbp_world.proofs.Lists.TameWalks.{from_after, from_between}
 use Rattle.sbp_world.proofs.Lists.Beside.{tame_or_few_before}
-use Rattle.sbp_world.specs.Lists.FewLogins.{IsTameOrFew}
 use Rattle.sbp_world.proofs.Lists.AnswersTold.{AreToldThere}
 use Rattle.sbp_world.proofs.Lists.AnswerLengths.{AreFilled, commands_fill}
-use Rattle.sbp_bus.specs.Places.{or_nobody}
 use Rattle.sbp_world.proofs.Agents.UnitsLines.{opened as units_opened}
 use Rattle.sbp_world.proofs.Lists.Turns.{Ready}
 use Rattle.sbp_world.proofs.Lists.Walks.{Step, Walks}
 use Rattle.sbp_world.proofs.Lists.DataHears.{AreHeard, heard_there}
 use Rattle.sbp_world.proofs.Lists.Sites.{named_prepared}
-use Rattle.sbp_laws.specs.Lists.{slot_at}
 use Rattle.sbp_world.proofs.Lists.DataHeard.{HaveSlots}
 use Rattle.sbp_world.proofs.Lists.StatusPlaced.{has_slot}
-use Rattle.sbp_world.specs.Lists.DataWhole.{AreWhole}
 use Rattle.sbp_world.proofs.Lists.DataSteps.{answers_is}
 use Rattle.sbp_world.proofs.Lists.Full.{IsFull}
 use Rattle.sbp_world.proofs.Common.{delivers}

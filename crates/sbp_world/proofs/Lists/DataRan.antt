@@ -1,36 +1,16 @@
 -- An agent that begins to write an answer in a reply in which a command runs has an answer with bytes to write.
-use Rattle.std.proofs.Common.{arith, ◌≡◌, refl, subst, ◌<◌, ◌==◌, ◌+◌, ℕ, Bool, true, false, cond, List, ◌++◌, length, Option, Some, None, IfSome, Result, Ok, Err, ◌*◌}
-use Rattle.std.proofs.lemmas.Bool.Decides.{nat_tests}
-use Rattle.std.proofs.lemmas.Bool.{false≢true}
-use Rattle.orb_layout.specs.declared.ask.FailCause.{FailCause}
+use Rattle.sbp_world.proofs.Words.Std.{arith, ◌≡◌, refl, subst, ◌<◌, ◌==◌, ◌+◌, ℕ, Bool, true, false, cond, List, ◌++◌, length, Option, Some, None, IfSome, Result, Ok, Err, ◌*◌, nat_tests, false≢true}
+use Rattle.sbp_world.proofs.Words.Target.{Need, Outcome, Told, answered_length, need_of, PlainDisk, Phase, ReadAhead, AgentStep, Move, Which, Ahead, Main, death_by, reads_table, verdict, Machine, chunk_of, is_ahead, plan_of, advanced, ahead_of, ahead_read, ahead_step, answer_chunk, check_step, checked, chunk_written, data_grown, data_read, data_step, elements_read, end_step, follow_step, judge_step, judged, next_read, orb_read, passed_step, quiet, ran_as, reply_step, reread_step, run_step, sent, served, table_read, told_or, turn_step, unread_buffer, wait_step, with_outcome}
+use Rattle.sbp_world.proofs.Words.Initiator.{FailCause, OrbPointer, Null, At, StatusKind, pointer_at, Answer, payload_of, write_failure, PageFault, elements_of, first_fault}
+use Rattle.sbp_world.proofs.Words.World.{answers}
 use Rattle.orb_layout.specs.declared.ask.FailCause.TheVariants as causes
-use Rattle.orb_layout.specs.declared.pointer.OrbPointer.{OrbPointer}
-use Rattle.orb_layout.specs.declared.pointer.OrbPointer.TheVariants.{Null, At}
-use Rattle.orb_layout.specs.declared.status.StatusKind.{StatusKind}
 use Rattle.orb_layout.specs.declared.status.StatusKind.TheVariants as kinds
-use Rattle.orb_layout.specs.Pointers.{pointer_at}
-use Rattle.orb_layout.specs.Replies.{Answer, payload_of, write_failure}
-use Rattle.page_table.specs.declared.fault.PageFault.{PageFault}
-use Rattle.page_table.specs.Elements.{elements_of, first_fault}
-use Rattle.rbc_disk.specs.declared.command.Need.{Need}
 use Rattle.rbc_disk.specs.declared.command.Need.TheVariants as needs
-use Rattle.rbc_disk.specs.declared.command.Outcome.{Outcome}
 use Rattle.rbc_disk.specs.declared.command.Outcome.TheVariants as outcomes
-use Rattle.rbc_disk.specs.Runs.{Told, answered_length, need_of}
-use Rattle.rbc_disk.specs.Units.{PlainDisk}
-use Rattle.command_agent.specs.declared.phase.Phase.{Phase}
 use Rattle.command_agent.specs.declared.phase.Phase.TheVariants as phases
-use Rattle.command_agent.specs.declared.phase.ReadAhead.{ReadAhead}
 use Rattle.command_agent.specs.declared.phase.ReadAhead.TheVariants as aheads
-use Rattle.command_agent.specs.declared.step.AgentStep.{AgentStep}
-use Rattle.command_agent.specs.declared.step.Move.{Move}
 use Rattle.command_agent.specs.declared.step.Move.TheVariants as moves
-use Rattle.command_agent.specs.declared.step.Which.{Which}
-use Rattle.command_agent.specs.declared.step.Which.TheVariants.{Ahead, Main}
-use Rattle.command_agent.specs.Checks.{death_by, reads_table, verdict}
-use Rattle.command_agent.specs.Machine.{Machine, chunk_of, is_ahead, plan_of}
-use Rattle.command_agent.specs.Steps.{advanced, ahead_of, ahead_read, ahead_step, answer_chunk, answer_step, check_step, checked, chunk_written, data_grown, data_read, data_step, elements_read, end_step, follow_step, judge_step, judged, next_read, orb_read, passed_step, quiet, ran_as, reply_step, reread_step, run_step, sent, served, status_written, table_read, told_or, turn_step, unread_buffer, wait_step, with_outcome}
-use Rattle.sbp_world.specs.Agents.Alike.{answers}
+use Rattle.command_agent.specs.Steps.{answer_step, status_written}
 
 abbrev Begins : AgentStep × Machine → Type 0
 Begins s = answers s.1.phase ≡ true → IfSome s.0.ran (λ outcome. 0 < answered_length outcome)

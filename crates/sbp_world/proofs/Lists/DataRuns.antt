@@ -1,26 +1,13 @@
 -- The writes of answers that agents wait for are of the next chunks of the buffers of their ORBs, in every run in which lists were open as they should be before.
-use Rattle.std.proofs.Common.{◌≡◌, sym, ap, subst, ℕ, ◌+◌, ◌<◌, ◌≤◌, Bool, false, List, ◌∷◌, ◌++◌, map, length, Option, Some}
-use Rattle.rbc_disk.specs.Disk.{Disk}
-use Rattle.rbc_disk.specs.Runs.{Told}
-use Rattle.sbp_journal.specs.declared.event.Event.{Event}
-use Rattle.sbp_journal.specs.Run.{Moment, asked, said}
-use Rattle.sbp_laws.specs.Lawful.{injectors}
-use Rattle.sbp_laws.specs.Targets.{agent_at, over, target_at}
-use Rattle.sbp_world.specs.Histories.{history_of}
-use Rattle.sbp_world.specs.Making.{ready_logins}
-use Rattle.sbp_world.specs.Runs.{Run, after, beginning}
-use Rattle.sbp_world.specs.Settling.{MayAll, after_all}
-use Rattle.sbp_world.specs.Worlds.{Scene, WorldState, begun, initiator_at}
-use Rattle.sbp_world.specs.Agents.Management.Terms.{DeliversMore}
+use Rattle.sbp_world.proofs.Words.Std.{◌≡◌, sym, ap, subst, ℕ, ◌+◌, ◌<◌, ◌≤◌, Bool, false, List, ◌∷◌, ◌++◌, map, length, Option, Some}
+use Rattle.sbp_world.proofs.Words.Wire.{Event, Moment, asked, said}
+use Rattle.sbp_world.proofs.Words.Target.{Disk, Told}
+use Rattle.sbp_world.proofs.Words.Laws.{injectors, agent_at, over, target_at}
+use Rattle.sbp_world.proofs.Words.World.{history_of, ready_logins, Run, after, beginning, MayAll, after_all, Scene, WorldState, begun, initiator_at, DeliversMore, HoldsOrbs, IsRun, AreNextChunks, DataWritesLaw, IsNextChunk, IsCalm, OpenAfter, OpenBefore, OpenBehind, OpenBetween, OpenLists, machine_at, OpensLaw}
 use Rattle.sbp_world.proofs.Agents.Management.Holding.{Holding}
 use Rattle.sbp_world.proofs.Agents.Management.Still.{hist}
-use Rattle.sbp_world.specs.Hosts.Orbs.{HoldsOrbs}
-use Rattle.sbp_world.specs.Hosts.Runs.{IsRun}
 use Rattle.sbp_world.proofs.Hosts.Orbs.{orbs_law}
 use Rattle.sbp_world.proofs.Hosts.Runs.{count_after, count_between}
-use Rattle.sbp_world.specs.Lists.DataWrites.{AreNextChunks, DataWritesLaw, IsNextChunk}
-use Rattle.sbp_world.specs.Lists.Needs.{IsCalm, OpenAfter, OpenBefore, OpenBehind, OpenBetween, OpenLists, machine_at}
-use Rattle.sbp_world.specs.Lists.Opens.{OpensLaw}
 use Rattle.sbp_world.proofs.Lists.Calm.{asked_calm, calm_before}
 use Rattle.sbp_world.proofs.Lists.DataPieces.{next_chunk}
 use Rattle.sbp_world.proofs.Lists.Kept.{Kept}

@@ -1,29 +1,14 @@
 -- The data of an answer are written in sequence: the first write begins with the first byte, each later one behind the bytes of the one before it, and the last one ends with the buffer.
-use Rattle.rbc_disk.specs.Disk.{Disk}
-use Rattle.std.proofs.Common.{arith, ◌≡◌, ◌∙◌, refl, sym, ap, subst, ◌<◌, ◌≤◌, ◌+◌, ◌^◌, ℕ, suc, nat_lt, Bool, true, false, List, [], ◌∷◌, ◌++◌, length, Some}
-use Rattle.std.proofs.lemmas.Bool.Decides.{nat_tests}
-use Rattle.std.proofs.lemmas.Option.{same_Some}
-use Rattle.bus_transactions.specs.Packets.{SerialsCount}
-use Rattle.command_agent.specs.Machine.{Machine}
-use Rattle.orb_layout.specs.declared.status.StatusKind.{StatusKind}
+use Rattle.sbp_world.proofs.Words.Std.{arith, ◌≡◌, ◌∙◌, refl, sym, ap, subst, ◌<◌, ◌≤◌, ◌+◌, ◌^◌, ℕ, suc, nat_lt, Bool, true, false, List, [], ◌∷◌, ◌++◌, length, Some, nat_tests, same_Some}
+use Rattle.sbp_world.proofs.Words.Wire.{SerialsCount, Access, Cmd, Moment, said, Sending, terms}
+use Rattle.sbp_world.proofs.Words.Target.{Disk, Machine}
+use Rattle.sbp_world.proofs.Words.Initiator.{StatusKind, bytes_of, chunk, chunk_from}
+use Rattle.sbp_world.proofs.Words.Laws.{laid_out, command_at, orb, prepared_in, slot_at, OnceLaw, appends, ended_status}
+use Rattle.sbp_world.proofs.Words.World.{IsWritten, is_behind, is_fresh, AreInSequence, IsReached, IsWrittenTo, begins, goes_on, AreServed, IsDataOf, WasClosed, IsAnswered, IsInTurn, follows, is_first}
 use Rattle.orb_layout.specs.declared.status.StatusKind.TheVariants as kinds
-use Rattle.page_table.specs.Buffer.{bytes_of, chunk, chunk_from}
-use Rattle.sbp_journal.specs.Addresses.{Access}
-use Rattle.sbp_journal.specs.declared.event.Cmd.{Cmd}
 use Rattle.sbp_journal.specs.declared.note.Note.TheVariants as notes
-use Rattle.sbp_journal.specs.Run.{Moment, said}
-use Rattle.sbp_journal.specs.Transactions.{Sending}
-use Rattle.sbp_journal.specs.Wire.{terms}
-use Rattle.sbp_laws.specs.CarriedBytes.{laid_out}
-use Rattle.sbp_laws.specs.Lists.{command_at, orb, prepared_in, slot_at}
-use Rattle.sbp_laws.specs.OnceLaw.{OnceLaw}
-use Rattle.sbp_laws.specs.Terms.{appends, ended_status}
 use Rattle.sbp_world.proofs.Hosts.Remaining.{remains}
 use Rattle.sbp_world.proofs.Hosts.SentMoments.{sent_below, serials_from}
-use Rattle.sbp_world.specs.Lists.DataEnds.{IsWritten, is_behind, is_fresh}
-use Rattle.sbp_world.specs.Lists.DataSequences.{AreInSequence, IsReached, IsWrittenTo, begins, goes_on}
-use Rattle.sbp_world.specs.Lists.DataServes.{AreServed, IsDataOf, WasClosed}
-use Rattle.sbp_world.specs.Lists.DataWrites.{IsAnswered, IsInTurn, follows, is_first}
 use Rattle.sbp_world.proofs.Lists.DataClosed.{Before, C, at_past, at_turn, before_all, end_level, end_there, ended_note, first_data, moment, past, sound_past, sound_turn, w, IsSound, are_served, closed_by_now, its, its_whole, access_same, none_behind, sent, sound_from}
 use Rattle.sbp_world.proofs.Lists.DataServed.{closed_on, grows, into_turn, mid, moved, ran_so, turn, whole}
 use Rattle.sbp_world.proofs.Lists.DataSlots.{command_lasts, prepared_below, slot_lasts}

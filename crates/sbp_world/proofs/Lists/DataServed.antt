@@ -1,26 +1,16 @@
 -- In a history each write of the data of an ORB but the latest one was closed and served, and behind an end, but as failed, the latest one was, too: a write follows as the one before it is answered, and so
 -- does such an end; and the write that is answered is of this ORB, as its slot has no other one while it is under way.
-use Rattle.rbc_disk.specs.Disk.{Disk}
-use Rattle.std.proofs.Common.{arith, ◌≡◌, ◌∙◌, refl, sym, ap, subst, ◌<◌, ◌≤◌, ◌+◌, ◌==◌, ◌&&◌, not, ℕ, suc, nat_eq, nat_lt, Bool, true, false, cond, List, [], ◌∷◌, ◌++◌, Option, Some, None}
-use Rattle.std.proofs.lemmas.Bool.Decides.{nat_tests}
-use Rattle.std.proofs.lemmas.Bool.{false≢true}
-use Rattle.std.proofs.lemmas.Option.{same_Some}
-use Rattle.bus_transactions.specs.Packets.{SerialsCount}
-use Rattle.orb_layout.specs.declared.status.StatusKind.{StatusKind}
+use Rattle.sbp_world.proofs.Words.Std.{arith, ◌≡◌, ◌∙◌, refl, sym, ap, subst, ◌<◌, ◌≤◌, ◌+◌, ◌==◌, ◌&&◌, not, ℕ, suc, nat_eq, nat_lt, Bool, true, false, cond, List, [], ◌∷◌, ◌++◌, Option, Some, None, nat_tests, false≢true, same_Some}
+use Rattle.sbp_world.proofs.Words.Wire.{SerialsCount, Moment, said, Sending, terms}
+use Rattle.sbp_world.proofs.Words.Target.{Disk}
+use Rattle.sbp_world.proofs.Words.Initiator.{StatusKind, row_of}
+use Rattle.sbp_world.proofs.Words.Laws.{Orb, TakenStatus, is_over, is_over_by, taken_at, ended_status, ends, runs, EachMoment}
+use Rattle.sbp_world.proofs.Words.World.{IsDataOf, WasClosed, AreDry, DataSo, IsDataWrite, IsDry, WasPiece, IsTakenSo, IsToHost, TakenSo}
 use Rattle.orb_layout.specs.declared.status.StatusKind.TheVariants as kinds
-use Rattle.orb_layout.specs.StatusBlocks.{row_of}
 use Rattle.sbp_journal.specs.declared.note.Note.TheVariants as notes
-use Rattle.sbp_journal.specs.Run.{Moment, said}
-use Rattle.sbp_journal.specs.Transactions.{Sending}
-use Rattle.sbp_journal.specs.Wire.{terms}
-use Rattle.sbp_laws.specs.Lists.{Orb, TakenStatus, is_over, is_over_by, taken_at}
-use Rattle.sbp_laws.specs.Terms.{ended_status, ends, runs}
-use Rattle.sbp_laws.specs.Turns.{EachMoment}
 use Rattle.sbp_world.proofs.Hosts.Remaining.{remains}
 use Rattle.sbp_world.proofs.Hosts.SentMoments.{count_now, sent_below, sent_moment, serials_from, WasSent}
-use Rattle.sbp_world.specs.Lists.DataServes.{IsDataOf, WasClosed}
-use Rattle.sbp_world.specs.Lists.DataWrites.{AreDry, DataSo, IsDataWrite, IsDry, WasPiece}
-use Rattle.sbp_world.specs.Lists.Statuses.{IsTakenSo, IsTold, IsToHost, TakenSo}
+use Rattle.sbp_world.specs.Lists.Statuses.{IsTold}
 use Rattle.sbp_world.proofs.Lists.DataTurns.{ran_on}
 use Rattle.sbp_world.proofs.Lists.Passing.{PassLaw}
 use Rattle.sbp_world.proofs.Lists.Rises.{Rises}

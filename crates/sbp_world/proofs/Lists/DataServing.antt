@@ -1,40 +1,20 @@
 -- The writes of answers were served in turn, and are in sequence, in every run in which no initiator injected packets, or few logins were given, where lists were open as they should be before.
-use Rattle.sbp_world.specs.Lists.Closes.{UnderFrom}
-use Rattle.std.proofs.Common.{◌≡◌, ◌∙◌, sym, ap, subst, ◌<◌, ◌≤◌, ℕ, List, ◌∷◌, ◌++◌, map, length, Option}
-use Rattle.std.proofs.lemmas.Option.{same_Some}
-use Rattle.rbc_disk.specs.Runs.{Told}
-use Rattle.sbp_journal.specs.declared.event.Event.{Event}
-use Rattle.sbp_journal.specs.Run.{Moment, asked, said}
-use Rattle.sbp_laws.specs.Lawful.{injectors}
-use Rattle.sbp_world.specs.Histories.{history_of}
-use Rattle.sbp_world.specs.Runs.{Run, after, beginning}
-use Rattle.sbp_world.specs.Settling.{MayAll, after_all}
-use Rattle.sbp_world.specs.Wire.History.{IsOfWire}
-use Rattle.sbp_world.specs.Worlds.{Scene, WorldState, begun}
+use Rattle.sbp_world.proofs.Words.Std.{◌≡◌, ◌∙◌, sym, ap, subst, ◌<◌, ◌≤◌, ℕ, List, ◌∷◌, ◌++◌, map, length, Option, same_Some}
+use Rattle.sbp_world.proofs.Words.Wire.{Event, Moment, asked, said, SerialsCount, Sending, terms}
+use Rattle.sbp_world.proofs.Words.Target.{Told}
+use Rattle.sbp_world.proofs.Words.Laws.{injectors}
+use Rattle.sbp_world.proofs.Words.World.{UnderFrom, history_of, Run, after, beginning, MayAll, after_all, IsOfWire, Scene, WorldState, begun, IsRun, more_deliveries, Under, WhereTameOrFew, AllEndSo, DataGotsLaw, ServedGotLaw, WasGot, DataSequenceLaw, DataServedLaw, AllDataSo, IsDataWrite, IsCalm, OpenBefore, OpenBetween, IsTameOrFew, AllStatuses, IsToHost}
 use Rattle.sbp_world.proofs.Wire.Entries.{once_behind}
 use Rattle.sbp_world.proofs.Wire.Starts.{laws_of}
 use Rattle.sbp_world.proofs.Agents.Management.Still.{hist}
-use Rattle.sbp_world.specs.Hosts.Runs.{IsRun, more_deliveries}
 use Rattle.sbp_world.proofs.Hosts.Quadlets.{source_law}
 use Rattle.sbp_world.proofs.Hosts.Runs.{count_after, count_between}
 use Rattle.sbp_world.proofs.Hosts.Statuses.Runs.{taking_law}
-use Rattle.sbp_world.specs.Lists.Closes.{Under, WhereTameOrFew}
-use Rattle.sbp_world.specs.Lists.DataEnds.{AllEndSo}
-use Rattle.sbp_world.specs.Lists.DataGots.{DataGotsLaw, ServedGotLaw, WasGot}
-use Rattle.sbp_world.specs.Lists.DataSequences.{DataSequenceLaw}
-use Rattle.sbp_world.specs.Lists.DataServes.{DataServedLaw}
-use Rattle.sbp_world.specs.Lists.DataWrites.{AllDataSo, IsDataWrite}
-use Rattle.sbp_world.specs.Lists.Needs.{IsCalm, OpenBefore, OpenBetween}
-use Rattle.sbp_world.specs.Lists.FewLogins.{IsTameOrFew}
-use Rattle.sbp_world.specs.Lists.Statuses.{AllStatuses, IsToHost}
 use Rattle.sbp_world.proofs.Lists.DataClosed.{IsSound, are_served}
 use Rattle.sbp_world.proofs.Lists.DataGots.{gots_so}
 use Rattle.sbp_world.proofs.Lists.DataSequences.{in_sequence}
 use Rattle.sbp_world.proofs.Lists.DataShut.{was_got}
 use Rattle.sbp_world.proofs.Lists.SlotShut.{AllApart, apart_between, apart_of}
-use Rattle.bus_transactions.specs.Packets.{SerialsCount}
-use Rattle.sbp_journal.specs.Transactions.{Sending}
-use Rattle.sbp_journal.specs.Wire.{terms}
 use Rattle.sbp_world.proofs.Lists.Histories.{after_lines, between}
 use Rattle.sbp_world.proofs.Lists.OpenProved.{After, facts_at, were_after}
 use Rattle.sbp_world.proofs.Lists.StatusRuns.{delivering, honest_of, rises_of}

@@ -1,24 +1,14 @@
 -- A write into a data buffer that was served was got: what an initiator ignores for its slot is written to a FIFO.
-use Rattle.std.proofs.Common.{arith, ◌≡◌, ◌∙◌, refl, sym, ap, subst, ◌<◌, ◌≤◌, ℕ, suc, nat_eq, nat_le, Bool, true, false, cond, List, [], ◌∷◌, Option, Some, None}
-use Rattle.std.proofs.lemmas.Bool.Decides.{nat_tests}
-use Rattle.std.proofs.lemmas.Option.{none-some}
-use Rattle.bus_memory.specs.declared.window.Window.{Window}
+use Rattle.sbp_world.proofs.Words.Std.{arith, ◌≡◌, ◌∙◌, refl, sym, ap, subst, ◌<◌, ◌≤◌, ℕ, suc, nat_eq, nat_le, Bool, true, false, cond, List, [], ◌∷◌, Option, Some, None, nat_tests, none-some}
+use Rattle.sbp_world.proofs.Words.Wire.{SerialsCount, reading, Cause, Note, Moment, asked, said, Sending, ignores_that, terms}
+use Rattle.sbp_world.proofs.Words.Initiator.{Window, window_at, within}
+use Rattle.sbp_world.proofs.Words.World.{WasGot, IsDataWrite}
 use Rattle.bus_memory.specs.declared.window.Window.TheVariants as windows
-use Rattle.bus_memory.specs.Windows.{window_at, within}
-use Rattle.bus_transactions.specs.Packets.{SerialsCount}
-use Rattle.async_packet.specs.Reading.{reading}
-use Rattle.sbp_journal.specs.declared.cause.Cause.{Cause}
 use Rattle.sbp_journal.specs.declared.cause.Cause.TheVariants as causes
 use Rattle.sbp_journal.specs.declared.event.Event.TheVariants as events
-use Rattle.sbp_journal.specs.declared.note.Note.{Note}
 use Rattle.sbp_journal.specs.declared.note.Note.TheVariants as notes
-use Rattle.sbp_journal.specs.Run.{Moment, asked, said}
-use Rattle.sbp_journal.specs.Transactions.{Sending}
-use Rattle.sbp_journal.specs.Wire.{ignores_that, terms}
 use Rattle.sbp_world.proofs.Hosts.Remaining.{remains}
 use Rattle.sbp_world.proofs.Hosts.SentMoments.{sent_below, serials_from}
-use Rattle.sbp_world.specs.Lists.DataGots.{WasGot}
-use Rattle.sbp_world.specs.Lists.DataWrites.{IsDataWrite}
 use Rattle.sbp_world.proofs.Lists.OpenedAside as aside
 use Rattle.sbp_world.proofs.Lists.ServedTerms.{ignored_served, quiet_served, opened_served}
 use Rattle.sbp_world.proofs.Lists.SlotShut.{AllApart, IsApartTo}

@@ -1,12 +1,8 @@
 -- The slot of an ORB stays the one in which it was prepared at its append, and its command stays that of its append: no later append of its list has its number.
-use Rattle.std.proofs.Common.{arith, ◌≡◌, ◌∙◌, refl, sym, ap, subst, ◌<◌, ◌≤◌, ℕ, suc, nat_eq, Bool, true, false, cond, List, [], ◌∷◌, ◌++◌, Some, None}
-use Rattle.std.proofs.lemmas.Bool.Decides.{nat_tests}
-use Rattle.sbp_journal.specs.Run.{Moment, said}
+use Rattle.sbp_world.proofs.Words.Std.{arith, ◌≡◌, ◌∙◌, refl, sym, ap, subst, ◌<◌, ◌≤◌, ℕ, suc, nat_eq, Bool, true, false, cond, List, [], ◌∷◌, ◌++◌, Some, None, nat_tests}
+use Rattle.sbp_world.proofs.Words.Wire.{Moment, said, NoteBuffer}
+use Rattle.sbp_world.proofs.Words.Laws.{Orb, cmd_of, command_at, lowest_vacant, orb, prepared_in, slot_at, slots, appends, request_at, event_of}
 use Rattle.sbp_journal.specs.declared.note.Note.TheVariants as notes
-use Rattle.sbp_journal.specs.declared.note.NoteBuffer.{NoteBuffer}
-use Rattle.sbp_laws.specs.Lists.{Orb, cmd_of, command_at, lowest_vacant, orb, prepared_in, slot_at, slots}
-use Rattle.sbp_laws.specs.Terms.{appends, request_at}
-use Rattle.sbp_laws.specs.Turns.{event_of}
 use Rattle.sbp_world.proofs.Lists.Passing.{PassLaw}
 
 pub same_orb : (a b c d : ℕ) → Some (orb a b) ≡ Some (orb c d) → (a ≡ c) × (b ≡ d)

@@ -1,35 +1,15 @@
 -- A reply to an agent along a list of an initiator that injected no packets: what it asks to write, but for a status block, is the next chunk of the answer of its present
 -- ORB, in the buffer that is laid out for the command of this ORB.
-use Rattle.std.proofs.Common.{arith, ◌≡◌, ◌∙◌, refl, sym, ap, subst, ◌<◌, ℕ, Bool, List, length, take, drop, Option, Some, None, true, false, cond, ◌+◌, ◌-◌, ◌^◌, Result, Ok, Err, IfSome, ◌∷◌, [], suc, nat_eq, nat_lt, ◌==◌, ◌&&◌, ◌≤◌}
-use Rattle.async_packet.specs.Labels.{LabelParts}
-use Rattle.async_packet.specs.Packet.{Packet, header_in}
-use Rattle.label_table.specs.Layer.{judging_step, of_response}
-use Rattle.login_table.specs.declared.login.Login.{Login}
+use Rattle.sbp_world.proofs.Words.Std.{arith, ◌≡◌, ◌∙◌, refl, sym, ap, subst, ◌<◌, ℕ, Bool, List, length, take, drop, Option, Some, None, true, false, cond, ◌+◌, ◌-◌, ◌^◌, Result, Ok, Err, IfSome, ◌∷◌, [], suc, nat_eq, nat_lt, ◌==◌, ◌&&◌, ◌≤◌, nat_tests, pow_pos}
+use Rattle.sbp_world.proofs.Words.Wire.{LabelParts, Packet, header_in, judging_step, of_response, Sent, Moment, said, list_in, orb_in, Access, Cmd}
+use Rattle.sbp_world.proofs.Words.Target.{Login, Disk, Told, MayEnd, answer_length_of, check_in, failure_of, answered_length, Phase, AgentStep, Which, Machine, chunk_of, cut_to, is_ahead, has_present, plan_of, limit_of, Knows, Progress, Answers, HasTold, main_ask, ahead_beside, main_beside, progress_by, IsRun, Keeps, chunk_by, end_by, heard_by, main_heard, run_by, IsEnd, status_by, which_in, desk_at, answer_in, is_good, to_write, OrbList, advanced, ahead_read, ahead_step, answer_chunk, chunk_written, quiet, reply_step, served, src_of, told_or, end_step, Ahead, Main, PlainDisk, Outcome, plain_in, orb_of, MayRun, MayTell, check_of}
+use Rattle.sbp_world.proofs.Words.Initiator.{FailCause, Answer, Done, Expired, NoLabel, Payload, Refused, payload_of, write_failure, chunk, chunk_from, addresses, buffer_addresses, bytes_of, start_of, window_at, StatusKind, Chunk, Segment, CommandOrb}
+use Rattle.sbp_world.proofs.Words.Laws.{command_at, slot_at, orb, prepared_in, linked, ends, request_at, ran_status, runs, status_of, laid_out}
+use Rattle.sbp_world.proofs.Words.World.{holder, ticket_at, WorldState, IsPieceOf, IsAnswered, orbs, IsBufferOf, IsOrbOf, IsFor, machine_at, IsNamed, IsOpenAt, initiator_in, has_list, answers, Follows, FillsBuffer}
 use Rattle.orb_layout.specs.declared.ask.Ask.TheVariants as asks
-use Rattle.packet_store.specs.declared.sent.Sent.{Sent}
-use Rattle.rbc_disk.specs.Disk.{Disk}
-use Rattle.rbc_disk.specs.Runs.{Told, MayEnd, answer_length_of, check_in, failure_of, answered_length}
-use Rattle.command_agent.specs.declared.phase.Phase.{Phase}
 use Rattle.command_agent.specs.declared.phase.Phase.TheVariants as phases
-use Rattle.command_agent.specs.declared.step.AgentStep.{AgentStep}
-use Rattle.command_agent.specs.declared.step.Which.{Which}
-use Rattle.command_agent.specs.Machine.{Machine, chunk_of, cut_to, is_ahead, has_present, plan_of, limit_of}
-use Rattle.agent_laws.specs.Along.Along.{Knows, Progress, Answers, HasTold}
-use Rattle.agent_laws.specs.Along.Requests.{main_ask, ahead_beside, main_beside}
-use Rattle.agent_laws.specs.Along.Steps.{progress_by, IsRun, Keeps, chunk_by, end_by, heard_by, main_heard, run_by, IsEnd, status_by}
-use Rattle.sbp_journal.specs.Run.{Moment, said}
-use Rattle.sbp_laws.specs.Lists.{command_at, slot_at, orb, prepared_in, linked}
-use Rattle.sbp_laws.specs.Terms.{ends, request_at, ran_status, runs, status_of}
 use Rattle.sbp_target.specs.declared.purpose.Purpose.TheVariants as purposes
-use Rattle.sbp_target.specs.Desks.{which_in}
-use Rattle.sbp_target.specs.Nodes.{desk_at}
-use Rattle.sbp_target.specs.Receiving.{answer_in}
-use Rattle.sbp_world.specs.Telling.{holder, ticket_at}
-use Rattle.sbp_world.specs.Worlds.{WorldState}
 use Rattle.sbp_world.proofs.Agents.Management.Still.{hist}
-use Rattle.sbp_world.specs.Lists.DataWrites.{IsPieceOf, IsAnswered}
-use Rattle.sbp_world.specs.Lists.Lists.{orbs, IsBufferOf, IsOrbOf}
-use Rattle.sbp_world.specs.Lists.Needs.{IsFor, machine_at, IsNamed, IsOpenAt, initiator_in}
 use Rattle.sbp_world.proofs.Lists.DataPieces.{chunk_is, same_piece}
 use Rattle.sbp_world.proofs.Lists.Deliveries.{waits_has}
 use Rattle.sbp_world.proofs.Lists.RunFits.{WasAsked}
@@ -37,46 +17,20 @@ use Rattle.sbp_world.proofs.Lists.RunOutcomes.{AreAsked}
 use Rattle.sbp_world.proofs.Lists.StatusAnswers.{answering_next, goes, heard, keeps, main_wrote, opened, reply, small, step_ended, run_ended}
 use Rattle.sbp_world.proofs.Lists.StatusDue.{Ours}
 use Rattle.sbp_world.proofs.Lists.Turns.{Ready, heard_ended, heard_outcome}
-use Rattle.orb_layout.specs.declared.ask.FailCause.{FailCause}
 use Rattle.orb_layout.specs.declared.ask.FailCause.TheVariants as causes
 use Rattle.orb_layout.specs.declared.status.StatusKind.TheVariants as kinds
-use Rattle.orb_layout.specs.Replies.{Answer, Done, Expired, NoLabel, Payload, Refused, payload_of, write_failure}
-use Rattle.agent_laws.specs.Answers.{is_good, to_write}
-use Rattle.agent_laws.specs.Along.Lists.{OrbList}
-use Rattle.command_agent.specs.Steps.{advanced, ahead_read, ahead_step, answer_chunk, chunk_written, quiet, reply_step, served, src_of, told_or, answer_step, end_step}
-use Rattle.command_agent.specs.declared.step.Which.TheVariants.{Ahead, Main}
-use Rattle.rbc_disk.specs.Units.{PlainDisk}
-use Rattle.rbc_disk.specs.declared.command.Outcome.{Outcome}
-use Rattle.page_table.specs.Buffer.{chunk, chunk_from, addresses, buffer_addresses, bytes_of}
-use Rattle.sbp_laws.specs.CarriedBytes.{laid_out}
-use Rattle.sbp_target.specs.Replies.{plain_in}
-use Rattle.sbp_world.specs.Agents.Alike.{has_list, answers}
+use Rattle.command_agent.specs.Steps.{answer_step}
 use Rattle.sbp_world.proofs.Lists.DataHears.{AreHeard, IsHeard}
 use Rattle.sbp_world.proofs.Lists.Passing.{GoesOn, HasRun}
 use Rattle.sbp_world.proofs.Lists.UnrunLaws.{unrun_law}
 use Rattle.std.specs.Prelude.{min}
-use Rattle.std.proofs.lemmas.Bool.Decides.{nat_tests}
-use Rattle.std.proofs.lemmas.Nat.{pow_pos}
 use Rattle.bus_memory.specs.declared.window.Window.TheVariants as windows
-use Rattle.bus_memory.specs.Windows.{start as start_of, window_at}
-use Rattle.orb_layout.specs.declared.status.StatusKind.{StatusKind}
 use Rattle.page_table.proofs.Places.{chunk_in_place}
-use Rattle.page_table.specs.declared.segment.Chunk.{Chunk}
-use Rattle.page_table.specs.declared.segment.Segment.{Segment}
-use Rattle.sbp_bus.specs.Telling.{list_in, orb_in}
-use Rattle.sbp_journal.specs.Addresses.{Access}
-use Rattle.sbp_journal.specs.declared.event.Cmd.{Cmd}
 use Rattle.sbp_journal.specs.declared.note.Note.TheVariants as notes
-use Rattle.sbp_target.specs.Telling.{orb_of}
-use Rattle.sbp_world.specs.Hosts.Carrying.{Follows}
 use Rattle.sbp_world.proofs.Lists.Slots.{IsFilled, data_window}
 use Rattle.sbp_world.proofs.Lists.StatusLosses.{present_is}
 use Rattle.sbp_world.proofs.Lists.StatusSteps.{EndsSo, replied_leaves, none_wrote, read_wrote}
-use Rattle.command_agent.specs.Runs.{MayRun, MayTell}
-use Rattle.rbc_disk.specs.Checks.{check_of}
 use Rattle.rbc_disk.specs.declared.command.Outcome.TheVariants as outcomes
-use Rattle.orb_layout.specs.declared.command.CommandOrb.{CommandOrb}
-use Rattle.sbp_world.specs.Wire.Lines.{FillsBuffer}
 use Rattle.sbp_world.proofs.Hosts.OrbTables.{whole_bytes}
 use Rattle.sbp_world.proofs.Lists.AnswerChecks.{check_length, ended_none}
 use Rattle.sbp_world.proofs.Lists.AnswerWays.{IsWay}

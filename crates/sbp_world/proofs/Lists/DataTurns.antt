@@ -1,31 +1,17 @@
 -- A delivery to the target sends the data of answers as they are to be sent: each write into a buffer of an initiator that injected no packets is of the next chunk of the
 -- present ORB of one of its lists, as the turn began; where this is known of the management.
+use Rattle.sbp_world.proofs.Words.Std.{◌≡◌, ◌∙◌, sym, ap, ℕ, suc, List, [], ◌∷◌, ◌++◌, Some, None, subst, ◌≤◌, ◌<◌, Bool, true, false, cond, nat_eq, arith}
+use Rattle.sbp_world.proofs.Words.Wire.{GenerationsState, node_of, topology_at, Access, Outgoing, Side, Moment, said, Note, terms}
+use Rattle.sbp_world.proofs.Words.Target.{Disk, Machine, new_machine}
+use Rattle.sbp_world.proofs.Words.Initiator.{StatusKind}
+use Rattle.sbp_world.proofs.Words.Laws.{ends, runs, ended_status, EachMoment, orb, slot_at}
+use Rattle.sbp_world.proofs.Words.World.{IsAnswerOf, sent_one, sent_all, told, told_all, WorldState, DataSo, IsDataWrite, IsPieceOf, IsAnswered, IsInTurn, is_first, follows, IsDry, AreDry, HasSlot}
 use Rattle.sbp_world.proofs.Lists.AnswerRuns.{answer_on}
-use Rattle.sbp_world.specs.Lists.AnswersTold.{IsAnswerOf}
-use Rattle.rbc_disk.specs.Disk.{Disk}
-use Rattle.std.proofs.Common.{◌≡◌, ◌∙◌, sym, ap, ℕ, suc, List, [], ◌∷◌, ◌++◌, Some, None, subst, ◌≤◌, ◌<◌, Bool, true, false, cond, nat_eq, arith}
-use Rattle.command_agent.specs.Machine.{Machine, new_machine}
-use Rattle.sbp_bus.specs.Generations.{GenerationsState, node_of, topology_at}
-use Rattle.sbp_journal.specs.Addresses.{Access}
 use Rattle.sbp_journal.specs.declared.note.Note.TheVariants as notes
-use Rattle.sbp_journal.specs.declared.outbox.Outgoing.{Outgoing}
-use Rattle.sbp_journal.specs.declared.side.Side.{Side}
 use Rattle.sbp_journal.specs.declared.side.Side.TheVariants as sides
-use Rattle.sbp_journal.specs.Run.{Moment, said}
-use Rattle.sbp_laws.specs.Terms.{ends, runs, ended_status}
-use Rattle.sbp_laws.specs.Turns.{EachMoment}
-use Rattle.sbp_world.specs.Sending.{sent as sent_one, sent_all}
-use Rattle.sbp_world.specs.Telling.{told, told_all}
-use Rattle.sbp_world.specs.Worlds.{WorldState}
 use Rattle.sbp_world.proofs.Agents.Management.Still.{hist}
-use Rattle.sbp_world.specs.Lists.DataWrites.{DataSo, IsDataWrite, IsPieceOf, IsAnswered, IsInTurn, is_first, follows, IsDry, AreDry}
 use Rattle.sbp_world.proofs.Lists.Judging.{Grown}
 use Rattle.sbp_world.proofs.Lists.StatusSends.{sent_generations, sent_on}
-use Rattle.sbp_journal.specs.declared.note.Note.{Note}
-use Rattle.sbp_journal.specs.Wire.{terms}
-use Rattle.sbp_laws.specs.Lists.{orb, slot_at}
-use Rattle.sbp_world.specs.Lists.SlotsStay.{HasSlot}
-use Rattle.orb_layout.specs.declared.status.StatusKind.{StatusKind}
 use Rattle.orb_layout.specs.declared.status.StatusKind.TheVariants as kinds
 use Rattle.sbp_world.proofs.Common.{moments_joined}
 use Rattle.sbp_world.proofs.Lists.StatusOffice.{sides_generations}

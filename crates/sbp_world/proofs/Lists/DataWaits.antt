@@ -1,11 +1,8 @@
 -- A request whose transaction was closed is not under way again (IEEE 1394-1995, split transactions): the transaction that waits for a request is the one that it began, which its response left free, and its time-out at rest.
-use Rattle.std.proofs.Common.{arith, ◌≡◌, ◌∙◌, refl, sym, ap, inl, inr, ◌⊎◌, ◌≤◌, ℕ, true, cond, List, [], ◌∷◌, ◌++◌, Option, Some}
-use Rattle.bus_transactions.specs.Packets.{SerialsCount}
-use Rattle.sbp_journal.specs.Run.{Moment, said}
-use Rattle.sbp_journal.specs.Transactions.{Sending, Transaction, between}
-use Rattle.sbp_journal.specs.Wire.{Terms, begun_in, free, rests, terms, times_out, waits}
+use Rattle.sbp_world.proofs.Words.Std.{arith, ◌≡◌, ◌∙◌, refl, sym, ap, inl, inr, ◌⊎◌, ◌≤◌, ℕ, true, cond, List, [], ◌∷◌, ◌++◌, Option, Some}
+use Rattle.sbp_world.proofs.Words.Wire.{SerialsCount, Moment, said, Sending, Transaction, between, Terms, begun_in, free, rests, terms, times_out, waits}
+use Rattle.sbp_world.proofs.Words.Laws.{answered_at, is_under_way}
 use Rattle.sbp_journal.specs.declared.note.Note.TheVariants as notes
-use Rattle.sbp_laws.specs.Packets.{answered_at, is_under_way}
 use Rattle.sbp_world.proofs.Hosts.PointerRuns.{Awaits, awaits_of}
 use Rattle.sbp_world.proofs.Hosts.Remaining.{remains}
 use Rattle.sbp_world.proofs.Hosts.SentMoments.{sent_below, serials_from}

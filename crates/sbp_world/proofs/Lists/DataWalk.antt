@@ -1,54 +1,19 @@
 -- Each turn of a run sends the data of answers as they are to be sent, to an initiator that injected no packets: where this is known of the management.
-use Rattle.rbc_disk.specs.Disk.{Disk}
-use Rattle.sbp_laws.specs.Targets.{plain_of}
+use Rattle.sbp_world.proofs.Words.Std.{arith, ◌≡◌, ◌∙◌, refl, sym, subst, ◌<◌, ℕ, suc, Bool, true, false, List, [], ◌∷◌, length, Option, Some, None, Result, Ok, Err}
+use Rattle.sbp_world.proofs.Words.Wire.{Packet, Stale, Layer, expiring_step, judging_step, of_response, Sent, found_sent, Request, topology_at, end_note, judged_note, no_packet, find, Event, Note, empty_outbox, Moment, asked, terms, LabelParts}
+use Rattle.sbp_world.proofs.Words.Target.{Disk, plain_in, Login, is_live, Told, Purpose, manage, TargetScene, login_at, scene, answer_in, expired, expired_in, received}
+use Rattle.sbp_world.proofs.Words.Initiator.{Expired}
+use Rattle.sbp_world.proofs.Words.Laws.{plain_of, ends, EachMoment}
+use Rattle.sbp_world.proofs.Words.World.{initiator_in, MayAt, MayReceive, MayTell, MayTold, delivered, marked, target_received, whole_of, handed_out, MayHappen, happens, MayIf, delivered_if, expires, initiator_expires, is_in_flight, may_repeat, target_expired, target_left, timed_out, timeout_line, timeout_of, MayNext, delivered_at, delivered_next, lowest, IsLine, Scene, WorldState, begun, with_note, with_target, without_notes, has_list, AreOthers, IsFor, machine_at, DataSo}
 use Rattle.sbp_world.proofs.Lists.AnswerRuns.{answer_on}
-use Rattle.sbp_target.specs.Replies.{plain_in}
-use Rattle.sbp_laws.specs.Terms.{ends}
-use Rattle.sbp_world.specs.Lists.Needs.{initiator_in}
-use Rattle.std.proofs.Common.{arith, ◌≡◌, ◌∙◌, refl, sym, subst, ◌<◌, ℕ, suc, Bool, true, false, List, [], ◌∷◌, length, Option, Some, None, Result, Ok, Err}
-use Rattle.async_packet.specs.Packet.{Packet}
-use Rattle.label_table.specs.declared.reply.Stale.{Stale}
-use Rattle.login_table.specs.declared.login.Login.{Login}
-use Rattle.login_table.specs.Table.{is_live}
-use Rattle.label_table.specs.Layer.{Layer, expiring_step, judging_step, of_response}
-use Rattle.orb_layout.specs.Replies.{Expired}
-use Rattle.packet_store.specs.declared.sent.Sent.{Sent}
-use Rattle.packet_store.specs.Kept.{found_sent}
-use Rattle.rbc_disk.specs.Runs.{Told}
-use Rattle.sbp_bus.specs.declared.requests.Request.{Request}
-use Rattle.sbp_bus.specs.Generations.{topology_at}
-use Rattle.sbp_bus.specs.Packets.{end_note, judged_note, no_packet}
-use Rattle.sbp_bus.specs.Requests.{find}
-use Rattle.sbp_journal.specs.declared.event.Event.{Event}
 use Rattle.sbp_journal.specs.declared.event.Event.TheVariants as events
-use Rattle.sbp_journal.specs.declared.note.Note.{Note}
 use Rattle.sbp_journal.specs.declared.note.Note.TheVariants as notes
-use Rattle.sbp_journal.specs.Outgoings.{empty_outbox}
-use Rattle.sbp_journal.specs.Run.{Moment, asked}
-use Rattle.sbp_journal.specs.Wire.{terms}
-use Rattle.sbp_laws.specs.Turns.{EachMoment}
-use Rattle.async_packet.specs.Labels.{LabelParts}
-use Rattle.sbp_target.specs.declared.purpose.Purpose.{Purpose}
 use Rattle.sbp_target.specs.declared.purpose.Purpose.TheVariants as purposes
-use Rattle.sbp_target.specs.Management.{manage}
-use Rattle.sbp_target.specs.Nodes.{Scene as TargetScene, login_at, scene}
-use Rattle.sbp_target.specs.Receiving.{answer_in, expired, expired_in, received}
-use Rattle.sbp_world.specs.Delivering.{MayAt, MayReceive, MayTell, MayTold, delivered, marked, target_received, whole_of}
-use Rattle.sbp_world.specs.Handing.{handed_out}
-use Rattle.sbp_world.specs.Lines.{MayHappen, happens}
-use Rattle.sbp_world.specs.Packets.{MayIf, delivered_if, expires, initiator_expires, is_in_flight, may_repeat, target_expired, target_left, timed_out, timeout_line, timeout_of}
 use Rattle.sbp_world.specs.Packets as packets
-use Rattle.sbp_world.specs.Settling.{MayNext, delivered_at, delivered_next, lowest}
 use Rattle.sbp_world.specs.Settling as settling
-use Rattle.sbp_world.specs.Wire.Lines.{IsLine}
-use Rattle.sbp_world.specs.Worlds.{Scene, WorldState, begun, with_note, with_target, without_notes}
 use Rattle.sbp_world.proofs.Wire.Comes.{to_zero}
-use Rattle.sbp_world.specs.Agents.Alike.{has_list}
 use Rattle.sbp_world.proofs.Agents.Management.Still.{hist}
-use Rattle.sbp_world.specs.Hosts.Handing.{AreOthers}
 use Rattle.sbp_world.proofs.Hosts.Hands.{hand_law}
-use Rattle.sbp_world.specs.Lists.Needs.{IsFor, machine_at}
-use Rattle.sbp_world.specs.Lists.DataWrites.{DataSo}
 use Rattle.sbp_world.proofs.Lists.Generations.{moment_generation}
 use Rattle.sbp_world.proofs.Lists.RunOutcomes.{AreAsked}
 use Rattle.sbp_world.proofs.Lists.StatusActs.{first}

@@ -1,30 +1,16 @@
 -- While an agent writes an answer, it has as many bytes as the buffer of the ORB, and not all were written: the command of a line fills its buffer, and what a run tells has the length of the answer to it.
+use Rattle.sbp_world.proofs.Words.Std.{◌≡◌, ◌∙◌, refl, sym, ap, subst, ◌<◌, ℕ, zero, suc, Bool, false, List, [], length, Option, Some, None, slice_index_or, false≢true}
+use Rattle.sbp_world.proofs.Words.Wire.{Moment}
+use Rattle.sbp_world.proofs.Words.Target.{Disk, Desk, new_desk}
+use Rattle.sbp_world.proofs.Words.Laws.{slot_at}
+use Rattle.sbp_world.proofs.Words.World.{has_list, moments_behind, Run, beginning, after, after_all, WorldState, begun, initiator_at, initiator_in, machine_at, new_world, answers, HoldsOrbs, more_deliveries, Always, Under, AnswersWholeLaw}
 use Rattle.sbp_world.proofs.Lists.Full.{closed_where}
 use Rattle.sbp_world.proofs.Lists.PlaceOwners.{walk_owns}
 use Rattle.sbp_world.proofs.Lists.OpenTurns.{listing_up}
-use Rattle.sbp_world.specs.Agents.Alike.{has_list}
 use Rattle.sbp_world.proofs.Lists.DataSteps.{answers_is}
-use Rattle.std.proofs.Common.{◌≡◌, ◌∙◌, refl, sym, ap, subst, ◌<◌, ℕ, zero, suc, Bool, false, List, [], length, Option, Some, None}
-use Rattle.std.specs.Prelude.{slice_index_or, replicate}
-use Rattle.std.proofs.lemmas.Bool.{false≢true}
-use Rattle.rbc_disk.specs.Disk.{Disk}
-use Rattle.sbp_journal.specs.Run.{Moment}
-use Rattle.sbp_world.specs.Histories.{moments_behind}
-use Rattle.sbp_world.specs.Runs.{Run, beginning, after}
-use Rattle.sbp_world.specs.Settling.{after_all}
-use Rattle.sbp_world.specs.Worlds.{WorldState, begun, initiator_at}
+use Rattle.std.specs.Prelude.{replicate}
 use Rattle.sbp_world.proofs.Agents.Management.Still.{hist}
-use Rattle.sbp_world.specs.Lists.Needs.{initiator_in, machine_at}
 use Rattle.sbp_world.proofs.Lists.Walks.{Walks}
-use Rattle.sbp_laws.specs.Lists.{slot_at}
-use Rattle.sbp_target.specs.declared.desk.Desk.{Desk}
-use Rattle.sbp_target.specs.Desks.{new_desk}
-use Rattle.sbp_world.specs.Making.{new_world}
-use Rattle.sbp_world.specs.Agents.Alike.{answers}
-use Rattle.sbp_world.specs.Hosts.Orbs.{HoldsOrbs}
-use Rattle.sbp_world.specs.Hosts.Runs.{more_deliveries}
-use Rattle.sbp_world.specs.Lists.Closes.{Always, Under}
-use Rattle.sbp_world.specs.Lists.DataWhole.{AnswersWholeLaw}
 use Rattle.sbp_world.proofs.Lists.AnswerLengths.{AreFilled, FillsEvent, commands_fill, filled_behind, filled_said}
 use Rattle.sbp_world.proofs.Lists.DataSteps.{ArePrepared, reply_whole}
 use Rattle.sbp_world.proofs.Lists.Executes.{asked_of}

@@ -1,22 +1,15 @@
 -- What a reply to the operation of the target's management makes of the count of its undecided operations and of its live logins (NCITS 325-1998, management agent and
 -- login): a decision ends the reading of an operation, and a login that it grants is one more that is live.
-use Rattle.std.proofs.Common.{arith, ◌≡◌, refl, ap, ℕ, ◌+◌, ◌*◌, ◌^◌, ◌≤◌, ◌==◌, Bool, true, false, cond, List, length, Option, Some, None, Result, Ok, Err}
-use Rattle.login_table.specs.Table.{Table}
-use Rattle.mgmt_agent.specs.declared.decision.ManagerStep.{ManagerStep}
+use Rattle.sbp_world.proofs.Words.Std.{arith, ◌≡◌, refl, ap, ℕ, ◌+◌, ◌*◌, ◌^◌, ◌≤◌, ◌==◌, Bool, true, false, cond, List, length, Option, Some, None, Result, Ok, Err, quad}
+use Rattle.sbp_world.proofs.Words.Wire.{function_word}
+use Rattle.sbp_world.proofs.Words.Target.{Table, ManagerStep, Operation, decide, reads_eui, beside, respond_step, cut_response, decide_step, decided_as, eui_step, high_eui_at, high_got, in_phase, low_got, orb_got, reply_in, reply_to, response_written, status_step, status_written}
+use Rattle.sbp_world.proofs.Words.Initiator.{FailCause, ManagementOrb, management_orb, Answer, payload_of, write_failure}
+use Rattle.sbp_world.proofs.Words.World.{is_written}
 use Rattle.mgmt_agent.specs.declared.decision.Outcome.{Outcome}
-use Rattle.mgmt_agent.specs.declared.operation.Operation.{Operation}
 use Rattle.mgmt_agent.specs.declared.operation.Phase.{Phase}
 use Rattle.mgmt_agent.specs.declared.operation.Phase.TheVariants as phases
-use Rattle.mgmt_agent.specs.Decisions.{decide, reads_eui}
-use Rattle.mgmt_agent.specs.Machine.{Machine, beside, quiet, respond_step, cut_response, decide_step, decided_as, eui_step, high_eui_at, high_got, in_phase, low_got, orb_got, reply_in, reply_step, reply_to, response_written, status_step, status_written}
+use Rattle.mgmt_agent.specs.Machine.{Machine, quiet, reply_step}
 use Rattle.orb_layout.specs.declared.ask.Ask.TheVariants as asks
-use Rattle.orb_layout.specs.declared.ask.FailCause.{FailCause}
-use Rattle.orb_layout.specs.declared.management.ManagementOrb.{ManagementOrb}
-use Rattle.orb_layout.specs.ManagementOrbs.{management_orb}
-use Rattle.orb_layout.specs.Replies.{Answer, payload_of, write_failure}
-use Rattle.sbp_base.specs.Quadlets.{quad}
-use Rattle.sbp_bus.specs.Words.{function_word}
-use Rattle.sbp_world.specs.Sessions.Writing.{is_written}
 use Rattle.sbp_world.proofs.Lists.CountedLogins.{Fine, decide_fine, live_in}
 use Rattle.sbp_world.proofs.Lists.GrantSides.{decision_grants}
 

@@ -1,56 +1,26 @@
 -- Each call of the target keeps what is known of its agents, and what it tells is in the order: a packet that it gets, and a time-out.
-use Rattle.std.proofs.Common.{◌≡◌, ◌∙◌, refl, sym, ap, subst, ◌<◌, ◌≤◌, ℕ, nat_lt, Bool, true, false, cond, List, [], ◌∷◌, length, Option, Some, None, Result, Ok, Err, arith}
-use Rattle.std.proofs.lemmas.Bool.Decides.{nat_tests}
-use Rattle.async_packet.specs.Labels.{LabelParts}
-use Rattle.async_packet.specs.Packet.{Packet, header_in}
-use Rattle.label_table.specs.declared.reply.Stale.{Stale}
-use Rattle.label_table.specs.Layer.{Finding, Layer, judging_step, of_again, of_generation, of_grammar, of_label, of_request, of_response}
-use Rattle.login_table.specs.declared.login.Login.{Login}
-use Rattle.orb_layout.specs.Replies.{Expired}
-use Rattle.packet_store.specs.declared.sent.Sent.{Sent}
-use Rattle.rbc_disk.specs.Held.{Held}
-use Rattle.rbc_disk.specs.Runs.{Told}
+use Rattle.sbp_world.proofs.Words.Std.{◌≡◌, ◌∙◌, refl, sym, ap, subst, ◌<◌, ◌≤◌, ℕ, nat_lt, Bool, true, false, cond, List, [], ◌∷◌, length, Option, Some, None, Result, Ok, Err, arith, nat_tests}
+use Rattle.sbp_world.proofs.Words.Wire.{LabelParts, Packet, header_in, Stale, Finding, Layer, judging_step, of_again, of_generation, of_grammar, of_label, of_request, of_response, Sent, judged_note, Judged, Note, empty_outbox, Moment, said}
+use Rattle.sbp_world.proofs.Words.Target.{Login, Held, Told, Which, Main, Ahead, is_ahead, is_sent, address_error, complete, demand_of, Access, Demand, Desk, Purpose, cut, is_that, new_desk, which_in, NodeState, Scene, desk_at, login_at, scene, answer_in, concluded, expire_agent, expired_by, expired_in, judged_scene, received, received_as, settled, timed_out, Whole, replied_by, replied_to, served_login, whole, accessed_by, answered, enabled, is_barred, serve, served_as}
+use Rattle.sbp_world.proofs.Words.Initiator.{Expired}
+use Rattle.sbp_world.proofs.Words.World.{whole_of, holder, told_all, WorldState, has_list, IsFor, machine_at, WasHad}
 use Rattle.command_agent.specs.declared.phase.Phase.TheVariants as phases
-use Rattle.command_agent.specs.declared.step.Which.{Which}
-use Rattle.command_agent.specs.declared.step.Which.TheVariants.{Main, Ahead}
-use Rattle.command_agent.specs.Machine.{is_ahead, is_sent}
-use Rattle.sbp_bus.specs.Packets.{judged_note}
 use Rattle.sbp_journal.specs.declared.cause.CutCause.TheVariants as cuts
 use Rattle.sbp_journal.specs.declared.cause.Cause.TheVariants as ignored
-use Rattle.sbp_journal.specs.declared.cause.Judged.{Judged}
 use Rattle.sbp_journal.specs.declared.cause.Judged.TheVariants as judgements
-use Rattle.sbp_journal.specs.declared.note.Note.{Note}
 use Rattle.sbp_journal.specs.declared.note.Note.TheVariants as notes
-use Rattle.sbp_journal.specs.Outgoings.{empty_outbox}
-use Rattle.sbp_journal.specs.Run.{Moment, said}
-use Rattle.target_base.specs.Addresses.{address_error, complete, demand_of}
-use Rattle.target_base.specs.declared.address.Access.{Access}
 use Rattle.target_base.specs.declared.address.Access.TheVariants as accesses
-use Rattle.target_base.specs.declared.address.Demand.{Demand}
 use Rattle.target_base.specs.declared.address.Demand.TheVariants as demands
-use Rattle.sbp_target.specs.declared.desk.Desk.{Desk}
-use Rattle.sbp_target.specs.declared.purpose.Purpose.{Purpose}
 use Rattle.sbp_target.specs.declared.purpose.Purpose.TheVariants as purposes
-use Rattle.sbp_target.specs.Agents.{cut}
-use Rattle.sbp_target.specs.Desks.{is_that, new_desk, which_in}
-use Rattle.sbp_target.specs.Nodes.{NodeState, Scene, desk_at, login_at, scene}
-use Rattle.sbp_target.specs.Receiving.{answer_in, concluded, expire_agent, expired_by, expired_in, judged_scene, received, received_as, settled, timed_out}
-use Rattle.sbp_target.specs.Replies.{Whole, replied_by, replied_to, served_login, whole}
-use Rattle.sbp_target.specs.Serving.{accessed_by, answered, enabled, is_barred, request_step, serve, served_as}
-use Rattle.sbp_world.specs.Delivering.{whole_of}
-use Rattle.sbp_world.specs.Telling.{holder, told_all}
-use Rattle.sbp_world.specs.Worlds.{WorldState}
+use Rattle.sbp_target.specs.Serving.{request_step}
 use Rattle.sbp_target.proofs.Histories.Calling.{not_eight}
 use Rattle.sbp_target.proofs.Histories.Settled.{reaches}
-use Rattle.sbp_world.specs.Agents.Alike.{has_list}
 use Rattle.sbp_world.proofs.Agents.AskedLate.{ahead_of, main_of}
-use Rattle.sbp_world.specs.Lists.Needs.{IsFor, machine_at}
 use Rattle.sbp_world.proofs.Lists.Cuts.{Cutting, answers, cut_alike, cuts_one, desk_more, manages, starts}
 use Rattle.sbp_world.proofs.Lists.Kept.{Kept, same}
 use Rattle.sbp_world.proofs.Lists.Looks.{Looks}
 use Rattle.sbp_world.proofs.Lists.Registers.{point_kept, ring_kept, start_cutting}
 use Rattle.sbp_world.proofs.Agents.Management.Still.{hist}
-use Rattle.sbp_world.specs.Lists.CutLists.{WasHad}
 use Rattle.sbp_world.proofs.Lists.Takings.{Takes}
 use Rattle.sbp_world.proofs.Lists.Turns.{First, Ready, acting, got_it, ignored_it, late_it, late_kept, reply_kept, v}
 use Rattle.sbp_world.proofs.Lists.StatusCalls.{none_beyond}

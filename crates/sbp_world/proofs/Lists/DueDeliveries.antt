@@ -1,53 +1,19 @@
 -- The runs that a delivery tells are those that are due, in every run, whoever sent the packet.
-use Rattle.std.proofs.Common.{◌≡◌, ◌∙◌, refl, sym, ap, subst, ℕ, zero, suc, ◌<◌, nat_eq, not, is_some, true, false, cond, if◌then◌else◌, List, [], ◌∷◌, length, Option, Some, None, arith}
-use Rattle.std.proofs.lemmas.Bool.Decides.{nat_tests}
-use Rattle.std.proofs.lemmas.Bool.{not-true}
-use Rattle.async_packet.specs.Labels.{LabelParts}
-use Rattle.async_packet.specs.Packet.{Packet, header_in}
-use Rattle.bus_transactions.specs.Judging.{AreJudged}
-use Rattle.command_agent.specs.declared.step.AgentStep.{AgentStep}
-use Rattle.command_agent.specs.Machine.{Machine, has_present}
-use Rattle.command_agent.specs.Steps.{reply_step}
-use Rattle.label_table.specs.declared.reply.ReplyKind.{ReplyKind}
-use Rattle.label_table.specs.Layer.{Finding, Layer, judging_step, of_again, of_generation, of_grammar, of_label, of_request, of_response}
-use Rattle.label_table.specs.Requests.{reply_kind}
-use Rattle.login_table.specs.declared.login.Login.{Login}
-use Rattle.login_table.specs.Table.{Table, is_live, place_at}
-use Rattle.rbc_disk.specs.Disk.{Disk}
-use Rattle.rbc_disk.specs.Runs.{Told}
-use Rattle.rbc_disk.specs.Units.{PlainDisk}
-use Rattle.sbp_bus.specs.Places.{or_nobody}
-use Rattle.sbp_bus.specs.Words.{check_of}
-use Rattle.sbp_journal.specs.declared.cause.Cause.{Cause}
+use Rattle.sbp_world.proofs.Words.Std.{◌≡◌, ◌∙◌, refl, sym, ap, subst, ℕ, zero, suc, ◌<◌, nat_eq, not, is_some, true, false, cond, List, [], ◌∷◌, length, Option, Some, None, arith, nat_tests, not-true}
+use Rattle.sbp_world.proofs.Words.Wire.{LabelParts, Packet, header_in, AreJudged, ReplyKind, Finding, Layer, judging_step, of_again, of_generation, of_grammar, of_label, of_request, of_response, reply_kind, or_nobody, check_of, Cause, Note, Moment, said, Terms, terms}
+use Rattle.sbp_world.proofs.Words.Target.{AgentStep, Machine, has_present, reply_step, Login, Table, is_live, place_at, Disk, Told, PlainDisk, Purpose, which_in, desk_at, login_at, answer_in, received, received_as, with_layer, plain_in, or_zero}
+use Rattle.sbp_world.proofs.Words.Laws.{told_among, Run, runs_due, runs_in, unit_at, Orb, named, Target, initiator_at, initiator_with, node_in, over, target_at, unit_in, unit_of, turn}
+use Rattle.sbp_world.proofs.Words.World.{Office, whole_of, holder, ticket_at, Scene, WorldState, IsHeld, name_in}
+use Rattle.std.proofs.Common.{if◌then◌else◌}
 use Rattle.sbp_journal.specs.declared.cause.Judged.TheVariants as judgements
-use Rattle.sbp_journal.specs.declared.note.Note.{Note}
 use Rattle.sbp_journal.specs.declared.note.Note.TheVariants as notes
-use Rattle.sbp_journal.specs.Run.{Moment, said}
-use Rattle.sbp_journal.specs.Wire.{Terms, terms}
-use Rattle.sbp_laws.specs.Agents.{told_among}
-use Rattle.sbp_world.specs.Agents.Management.Offices.{Office}
 use Rattle.sbp_world.proofs.Agents.Management.Offices.{over_keeps}
-use Rattle.sbp_laws.specs.CarriedLaw.{Run, runs_due, runs_in}
-use Rattle.sbp_laws.specs.DiskFold.{unit_at}
 use Rattle.sbp_laws.specs.Lists as lists
-use Rattle.sbp_laws.specs.Lists.{Orb, named}
-use Rattle.sbp_laws.specs.Targets.{Target, initiator_at, initiator_with, node_in, over, target_at, told_of, unit_in, unit_of}
-use Rattle.sbp_laws.specs.Turns.{turn}
-use Rattle.sbp_target.specs.declared.purpose.Purpose.{Purpose}
+use Rattle.sbp_laws.specs.Targets.{told_of}
 use Rattle.sbp_target.specs.declared.purpose.Purpose.TheVariants as purposes
-use Rattle.sbp_target.specs.Desks.{which_in}
-use Rattle.sbp_target.specs.Nodes.{desk_at, login_at}
-use Rattle.sbp_target.specs.Receiving.{answer_in, received, received_as, with_layer}
-use Rattle.sbp_target.specs.Replies.{plain_in}
-use Rattle.sbp_target.specs.Telling.{or_zero}
 use Rattle.sbp_target.proofs.Histories.Calling.{Good, not_eight}
 use Rattle.sbp_target.proofs.Histories.Found.{IsFound, found as found_as}
 use Rattle.sbp_target.proofs.Histories.Following.{IsServed}
-use Rattle.sbp_world.specs.Delivering.{whole_of}
-use Rattle.sbp_world.specs.Telling.{holder, ticket_at}
-use Rattle.sbp_world.specs.Worlds.{Scene, WorldState}
-use Rattle.sbp_world.specs.Agents.Holders.{IsHeld}
-use Rattle.sbp_world.specs.Hosts.Rows.{name_in}
 use Rattle.sbp_world.proofs.Agents.CrewFirsts.{agrees}
 use Rattle.sbp_world.proofs.Agents.Keeping.{given_in}
 use Rattle.sbp_world.proofs.Agents.Management.Holding.{Holding}

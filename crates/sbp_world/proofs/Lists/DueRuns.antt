@@ -1,55 +1,18 @@
 -- A packet that is delivered runs the command that is due by the run terms, in every run, whoever sent it: where an agent of the target runs one as it goes on by a response,
 -- the agent of the terms runs it too, the command of its present ORB, with the data that it has; and where none runs, none is due.
-use Rattle.std.proofs.Common.{arith, ◌≡◌, ◌∙◌, refl, sym, ap, subst, ℕ, suc, ◌<◌, nat_lt, nat_eq, is_some, Bool, true, false, cond, List, [], ◌∷◌, length, Option, Some, None, Ok}
-use Rattle.std.proofs.lemmas.Bool.Decides.{nat_tests}
-use Rattle.async_packet.specs.Labels.{LabelParts}
-use Rattle.async_packet.specs.Packet.{Packet, header_in}
-use Rattle.async_packet.specs.Reading.{reading}
-use Rattle.bus_memory.specs.Windows.{slot_of}
+use Rattle.sbp_world.proofs.Words.Std.{arith, ◌≡◌, ◌∙◌, refl, sym, ap, subst, ℕ, suc, ◌<◌, nat_lt, nat_eq, is_some, Bool, true, false, cond, List, [], ◌∷◌, length, Option, Some, None, Ok, nat_tests, is_none}
+use Rattle.sbp_world.proofs.Words.Wire.{LabelParts, Packet, header_in, reading, AreJudged, as_sending, Layer, judging_step, of_response, reply_kind, Sent, found_sent, check_of, Note, Moment, said, Sending, Terms, terms}
+use Rattle.sbp_world.proofs.Words.Target.{AgentStep, Which, Machine, reply_step, told_or, Login, Outcome, Disk, Told, answer_of, PlainDisk, Purpose, sent_to, which_in, desk_at, login_at, answer_in, plain_in, MayRun}
+use Rattle.sbp_world.proofs.Words.Initiator.{slot_of, Answer, last_at, last_in, TicketParts, CommandOrb}
+use Rattle.sbp_world.proofs.Words.Laws.{agent_event, agent_turn, got_in, nothing, replies, reply_to, told_among, write_in, Run, run_by, run_of, runs_due, unit_at, Orb, named, named_in, prepared_in, access_at, term_answer, answered_at, packet_at, receiver_in, Agent, TermPurpose, Reply, Target, agent_at, for_agent, for_manager, for_nobody, initiator_at, is_serial, over, plain_for, purpose_of, target_at, unit_of, Turn, turn}
+use Rattle.sbp_world.proofs.Words.World.{ticket_of, Scene, WorldState, StepsAlike, TellsAlike, has_list, AreAgentsAt, AreHeldAt, IsForAgent, IsHanded, AreRows, name_in}
 use Rattle.bus_memory.proofs.Found.{slot_of_law}
-use Rattle.bus_transactions.specs.Judging.{AreJudged}
-use Rattle.bus_transactions.specs.Wire.{as_sending}
-use Rattle.command_agent.specs.declared.step.AgentStep.{AgentStep}
-use Rattle.command_agent.specs.declared.step.Which.{Which}
-use Rattle.command_agent.specs.Machine.{Machine}
-use Rattle.command_agent.specs.Steps.{reply_step, told_or}
-use Rattle.label_table.specs.Layer.{Layer, judging_step, of_response}
-use Rattle.label_table.specs.Requests.{reply_kind}
-use Rattle.login_table.specs.declared.login.Login.{Login}
-use Rattle.orb_layout.specs.Replies.{Answer}
-use Rattle.orb_list.specs.Lists.{last_at, last_in}
-use Rattle.orb_list.specs.Tickets.{TicketParts}
-use Rattle.packet_store.specs.declared.sent.Sent.{Sent}
-use Rattle.packet_store.specs.Kept.{found_sent}
-use Rattle.rbc_disk.specs.declared.command.Outcome.{Outcome}
-use Rattle.rbc_disk.specs.Disk.{Disk}
-use Rattle.rbc_disk.specs.Runs.{Told, answer_of}
-use Rattle.rbc_disk.specs.Units.{PlainDisk}
 use Rattle.sbp_bus.specs.Telling as bus
-use Rattle.sbp_bus.specs.Words.{check_of}
-use Rattle.sbp_journal.specs.declared.note.Note.{Note}
 use Rattle.sbp_journal.specs.declared.note.Note.TheVariants as notes
-use Rattle.sbp_journal.specs.Run.{Moment, said}
-use Rattle.sbp_journal.specs.Transactions.{Sending}
-use Rattle.sbp_journal.specs.Wire.{Terms, terms}
 use Rattle.sbp_laws.specs.Agents as laws
-use Rattle.sbp_laws.specs.Agents.{agent_event, agent_turn, got_in, nothing, replies, reply_to, told_among, write_in}
-use Rattle.sbp_laws.specs.CarriedLaw.{Run, run_by, run_of, runs_due}
-use Rattle.sbp_laws.specs.DiskFold.{unit_at}
 use Rattle.sbp_laws.specs.Lists as lists
-use Rattle.sbp_laws.specs.Lists.{Orb, named, named_in, prepared_in}
-use Rattle.sbp_laws.specs.Packets.{access_at, answer_in as term_answer, answered_at, packet_at, receiver_in}
-use Rattle.sbp_laws.specs.Targets.{Agent, Purpose as TermPurpose, Reply, Target, agent_at, for_agent, for_manager, for_nobody, initiator_at, is_serial, over, plain_for, purpose_of, target_at, told_of, unit_of}
-use Rattle.sbp_laws.specs.Turns.{Turn, turn}
-use Rattle.sbp_target.specs.declared.purpose.Purpose.{Purpose}
+use Rattle.sbp_laws.specs.Targets.{told_of}
 use Rattle.sbp_target.specs.declared.purpose.Purpose.TheVariants as purposes
-use Rattle.sbp_target.specs.Agents.{sent_to}
-use Rattle.sbp_target.specs.Desks.{which_in}
-use Rattle.sbp_target.specs.Nodes.{desk_at, login_at}
-use Rattle.sbp_target.specs.Receiving.{answer_in}
-use Rattle.sbp_target.specs.Replies.{plain_in}
-use Rattle.sbp_world.specs.Telling.{ticket_of}
-use Rattle.sbp_world.specs.Worlds.{Scene, WorldState}
 use Rattle.sbp_world.specs.Worlds as worlds
 use Rattle.sbp_world.proofs.Agents.CrewFirsts.{answer_same, asks_part, for_it, handed, plain_there, serving_it, small}
 use Rattle.sbp_world.proofs.Agents.CrewSeats.{IsServing}
@@ -58,18 +21,10 @@ use Rattle.sbp_world.proofs.Agents.Management.Holding.{Holding, was_sent}
 use Rattle.sbp_world.proofs.Agents.Management.Still.{hist}
 use Rattle.sbp_world.proofs.Agents.Keeping.{given_in}
 use Rattle.sbp_world.proofs.Agents.Mild.{reply_mild}
-use Rattle.command_agent.specs.Runs.{MayRun}
-use Rattle.orb_layout.specs.declared.command.CommandOrb.{CommandOrb}
-use Rattle.std.specs.Prelude.{◌&&◌, is_none}
+use Rattle.std.specs.Prelude.{◌&&◌}
 use Rattle.sbp_world.proofs.Agents.Steps.{reply_alike}
 use Rattle.sbp_world.proofs.Agents.ToldAlike.{run_alike}
 use Rattle.sbp_world.proofs.Hosts.Readings.{read_law}
-use Rattle.sbp_world.specs.Agents.Alike.{StepsAlike, TellsAlike, has_list}
-use Rattle.sbp_world.specs.Agents.Agents.{AreAgentsAt}
-use Rattle.sbp_world.specs.Agents.Holders.{AreHeldAt}
-use Rattle.sbp_world.specs.Agents.Serials.{IsForAgent, IsHanded}
-use Rattle.sbp_world.specs.Hosts.Fits.{AreRows}
-use Rattle.sbp_world.specs.Hosts.Rows.{name_in}
 use Rattle.sbp_world.proofs.Lists.DueTurns.{none_of, plain_told, write_due}
 use Rattle.sbp_world.proofs.Lists.Runless.{AllPlain}
 

@@ -1,32 +1,13 @@
 -- Which runs are due in a turn, by the run terms: none where it begins with no packet that the target gets, and none of an agent that answers no transaction. And how
 -- a history goes on by turns that tell the runs which are due.
-use Rattle.std.proofs.Common.{◌≡◌, ◌∙◌, refl, sym, ap, ℕ, Bool, true, false, cond, List, [], ◌∷◌, ◌++◌, map, Option, Some, None, Result, Ok, Err}
+use Rattle.sbp_world.proofs.Words.Std.{◌≡◌, ◌∙◌, refl, sym, ap, ℕ, Bool, true, false, cond, List, [], ◌∷◌, ◌++◌, map, Option, Some, None, Result, Ok, Err}
+use Rattle.sbp_world.proofs.Words.Wire.{Access, Register, Start, agent_reset, agent_state, doorbell, management_agent, no_start, orb_pointer, register, rom_start, start_at, start_serves, unsolicited_enable, LineEvent, Moment, asked, said, terms, Note}
+use Rattle.sbp_world.proofs.Words.Target.{Phase, PointRefusal, Which, Ahead, Main, Machine, is_ahead, advanced, ahead_step, doorbell_step, point_step, quiet, reply_step, served, told_or, Outcome, Disk, Told, PlainDisk}
+use Rattle.sbp_world.proofs.Words.Initiator.{Ask, pointer_at, Expired}
+use Rattle.sbp_world.proofs.Words.Laws.{Event, agent_turn, by_doorbell, by_pointer, nothing, reply_to, target_before, told_among, wire_before, write_in, write_of, writes, run_by, run_of, runs_due, runs_in, sender_in, Purpose, Target, agent_at, for_agent, for_manager, for_nobody, initiator_at, is_serial, plain_for, purpose_of, unit_of, EachTurn, EachTurnBefore, Turn, turn}
 use Rattle.std.specs.Prelude.{◌&&◌}
-use Rattle.command_agent.specs.declared.phase.Phase.{Phase}
 use Rattle.command_agent.specs.declared.phase.Phase.TheVariants as phases
-use Rattle.command_agent.specs.declared.step.PointRefusal.{PointRefusal}
-use Rattle.command_agent.specs.declared.step.Which.{Which}
-use Rattle.command_agent.specs.declared.step.Which.TheVariants.{Ahead, Main}
-use Rattle.command_agent.specs.Machine.{Machine, is_ahead}
-use Rattle.command_agent.specs.Steps.{advanced, ahead_step, doorbell_step, point_step, quiet, reply_step, served, told_or}
-use Rattle.orb_layout.specs.declared.ask.Ask.{Ask}
-use Rattle.orb_layout.specs.Pointers.{pointer_at}
-use Rattle.orb_layout.specs.Replies.{Expired}
-use Rattle.rbc_disk.specs.declared.command.Outcome.{Outcome}
-use Rattle.rbc_disk.specs.Disk.{Disk}
-use Rattle.rbc_disk.specs.Runs.{Told}
-use Rattle.rbc_disk.specs.Units.{PlainDisk}
-use Rattle.sbp_journal.specs.Addresses.{Access, Register, Start, agent_reset, agent_state, doorbell, management_agent, no_start, orb_pointer, register, rom_start, start_at, start_serves, unsolicited_enable}
-use Rattle.sbp_journal.specs.declared.event.Event.{Event as LineEvent}
-use Rattle.sbp_journal.specs.Run.{Moment, asked, said}
-use Rattle.sbp_journal.specs.Wire.{terms}
-use Rattle.sbp_journal.specs.declared.note.Note.{Note}
 use Rattle.sbp_journal.specs.declared.note.Note.TheVariants as notes
-use Rattle.sbp_laws.specs.Agents.{Event, agent_turn, by_doorbell, by_pointer, nothing, reply_to, target_before, told_among, wire_before, write_in, write_of, writes}
-use Rattle.sbp_laws.specs.CarriedLaw.{run_by, run_of, runs_due, runs_in}
-use Rattle.sbp_laws.specs.Packets.{sender_in}
-use Rattle.sbp_laws.specs.Targets.{Purpose, Target, agent_at, for_agent, for_manager, for_nobody, initiator_at, is_serial, plain_for, purpose_of, unit_of}
-use Rattle.sbp_laws.specs.Turns.{EachTurn, EachTurnBefore, Turn, turn}
 use Rattle.sbp_world.proofs.Lists.Runless.{AllPlain}
 
 -- ---- notes of no run

@@ -1,24 +1,14 @@
 -- A history in which each turn told the runs that were due goes on so, over a line with no packet and over a delivery, whoever sent the packet.
-use Rattle.std.proofs.Common.{◌≡◌, ◌∙◌, inl, inr, ◌⊎◌, refl, sym, ap, subst, ℕ, ◌<◌, Bool, true, false, List, [], ◌∷◌, ◌++◌, map, Option, Some, None}
-use Rattle.bus_transactions.specs.Judging.{AreJudged}
-use Rattle.rbc_disk.specs.Disk.{Disk}
-use Rattle.rbc_disk.specs.Runs.{Told}
-use Rattle.sbp_bus.specs.Packets.{end_note, judged_note}
-use Rattle.sbp_journal.specs.declared.cause.Judged.{Judged}
+use Rattle.sbp_world.proofs.Words.Std.{◌≡◌, ◌∙◌, inl, inr, ◌⊎◌, refl, sym, ap, subst, ℕ, ◌<◌, Bool, true, false, List, [], ◌∷◌, ◌++◌, map, Option, Some, None}
+use Rattle.sbp_world.proofs.Words.Wire.{AreJudged, end_note, judged_note, Judged, Event, Note, Moment, asked, said}
+use Rattle.sbp_world.proofs.Words.Target.{Disk, Told, plain_in}
+use Rattle.sbp_world.proofs.Words.Laws.{RunsWhereDue, of_others, runs_due, runs_in, unit_at, target_at, EachTurn, EachTurnBefore, turn}
+use Rattle.sbp_world.proofs.Words.World.{MayNext, delivered_at, delivered_next, lowest, Scene}
 use Rattle.sbp_journal.specs.declared.cause.Judged.TheVariants as judgements
-use Rattle.sbp_journal.specs.declared.event.Event.{Event}
-use Rattle.sbp_journal.specs.declared.note.Note.{Note}
 use Rattle.sbp_journal.specs.declared.note.Note.TheVariants as notes
-use Rattle.sbp_journal.specs.Run.{Moment, asked, said}
-use Rattle.sbp_laws.specs.CarriedLaw.{RunsWhereDue, of_others, runs_due, runs_in}
-use Rattle.sbp_laws.specs.DiskFold.{unit_at}
-use Rattle.sbp_laws.specs.Targets.{target_at}
-use Rattle.sbp_laws.specs.Turns.{EachTurn, EachTurnBefore, turn}
-use Rattle.sbp_target.specs.Replies.{plain_in}
-use Rattle.sbp_world.specs.Settling.{MayAt, MayNext, delivered_at, delivered_next, lowest}
+use Rattle.sbp_world.specs.Settling.{MayAt}
 use Rattle.sbp_target.proofs.Histories.Calling.{Good}
 use Rattle.sbp_world.proofs.Agents.Purposes.{g}
-use Rattle.sbp_world.specs.Worlds.{Scene}
 use Rattle.sbp_world.proofs.Agents.Management.Holding.{Holding}
 use Rattle.sbp_world.proofs.Agents.Management.Still.{hist}
 use Rattle.sbp_world.proofs.Lists.DueDeliveries.{none_got, one_got}

@@ -1,29 +1,17 @@
 -- What an agent waits for to read in a slot was sent when the ORB that the slot has had been appended: at each place of a history between two turns.
-use Rattle.std.proofs.Common.{arith, ◌≡◌, ◌∙◌, refl, sym, ap, subst, inl, inr, ◌⊎◌, ◌<◌, ◌≤◌, ℕ, suc, ◌+◌, nat_eq, Bool, true, false, cond, List, [], ◌∷◌, ◌++◌, Option, Some, None}
-use Rattle.std.proofs.lemmas.Bool.Decides.{nat_tests}
-use Rattle.bus_memory.specs.Windows.{window_at}
-use Rattle.bus_transactions.specs.Packets.{SerialsCount}
-use Rattle.command_agent.specs.declared.step.Which.{Which}
-use Rattle.command_agent.specs.declared.step.Which.TheVariants.{Ahead, Main}
-use Rattle.rbc_disk.specs.Disk.{Disk}
-use Rattle.sbp_journal.specs.Addresses.{Access}
-use Rattle.sbp_journal.specs.Run.{Moment, said}
-use Rattle.sbp_journal.specs.Transactions.{Sending}
-use Rattle.sbp_journal.specs.Wire.{terms}
+use Rattle.sbp_world.proofs.Words.Std.{arith, ◌≡◌, ◌∙◌, refl, sym, ap, subst, inl, inr, ◌⊎◌, ◌<◌, ◌≤◌, ℕ, suc, ◌+◌, nat_eq, Bool, true, false, cond, List, [], ◌∷◌, ◌++◌, Option, Some, None, nat_tests}
+use Rattle.sbp_world.proofs.Words.Wire.{SerialsCount, Access, Moment, said, Sending, terms}
+use Rattle.sbp_world.proofs.Words.Target.{Which, Ahead, Main, Disk}
+use Rattle.sbp_world.proofs.Words.Initiator.{window_at}
+use Rattle.sbp_world.proofs.Words.Laws.{before_sent, orb, prepared_in, access_at, access_in, packet_in, receiver_in, agent_at, over, target_at, appends}
+use Rattle.sbp_world.proofs.Words.World.{AreAskedAt, serial_of, slot_in}
 use Rattle.sbp_journal.specs.declared.note.Note.TheVariants as notes
-use Rattle.sbp_laws.specs.CarriedBytes.{before_sent}
-use Rattle.sbp_laws.specs.Lists.{orb, prepared_in}
-use Rattle.sbp_laws.specs.Packets.{access_at, access_in, packet_in, receiver_in}
-use Rattle.sbp_laws.specs.Targets.{agent_at, over, target_at}
-use Rattle.sbp_laws.specs.Terms.{appends}
-use Rattle.sbp_world.specs.Agents.AskedRuns.{AreAskedAt, serial_of}
 use Rattle.sbp_world.proofs.Hosts.Lasting.{from_moment}
 use Rattle.sbp_world.proofs.Hosts.LastingTerms.{AllLast}
 use Rattle.sbp_world.proofs.Hosts.PreparedLasts.{placed}
 use Rattle.sbp_world.proofs.Hosts.Remaining.{remains}
 use Rattle.sbp_world.proofs.Hosts.SentMoments.{WasSent, count_now, sent_below, sent_moment, serials_from}
 use Rattle.sbp_world.proofs.Lists.Awaited.{Awaits, Starts, since_over, waits_as}
-use Rattle.sbp_world.specs.Lists.SentReads.{slot_in}
 use Rattle.sbp_world.proofs.Hosts.Carrying.{last_from}
 
 -- what an agent of a place waits for, to read in a slot of an initiator, which has an ORB

@@ -1,22 +1,14 @@
 -- Each line and each delivery keeps that what agents wait for to read in a slot was sent when the ORB that the slot has had been appended.
-use Rattle.std.proofs.Common.{◌≡◌, ◌∙◌, refl, sym, ap, subst, ◌<◌, ℕ, suc, Bool, true, false, List, [], ◌∷◌, ◌++◌, map, Option, Some, None}
-use Rattle.command_agent.specs.declared.step.Which.{Which}
-use Rattle.rbc_disk.specs.Disk.{Disk}
-use Rattle.rbc_disk.specs.Runs.{Told}
-use Rattle.sbp_journal.specs.Run.{Moment, asked, said}
-use Rattle.sbp_journal.specs.declared.event.Event.{Event}
+use Rattle.sbp_world.proofs.Words.Std.{◌≡◌, ◌∙◌, refl, sym, ap, subst, ◌<◌, ℕ, suc, Bool, true, false, List, [], ◌∷◌, ◌++◌, map, Option, Some, None}
+use Rattle.sbp_world.proofs.Words.Wire.{Moment, asked, said, Event, end_note}
+use Rattle.sbp_world.proofs.Words.Target.{Which, Disk, Told}
+use Rattle.sbp_world.proofs.Words.Laws.{Agent, target_at}
+use Rattle.sbp_world.proofs.Words.World.{delivered_at, delivered_next, lowest, Scene, WorldState, without_notes, serial_of, agent_in, initiator_in}
 use Rattle.sbp_journal.specs.declared.event.Event.TheVariants as events
-use Rattle.sbp_bus.specs.Packets.{end_note}
 use Rattle.sbp_journal.specs.declared.note.Note.TheVariants as notes
-use Rattle.sbp_laws.specs.Targets.{Agent, target_at}
-use Rattle.sbp_world.specs.Settling.{delivered_at, delivered_next, lowest}
-use Rattle.sbp_world.specs.Worlds.{Scene, WorldState, without_notes}
 use Rattle.sbp_world.proofs.Agents.Management.Still.{hist}
-use Rattle.sbp_world.specs.Agents.AskedRuns.{serial_of}
-use Rattle.sbp_world.specs.Agents.Crews.{agent_in}
 use Rattle.sbp_world.proofs.Agents.CrewOthers.{settled_ends, stopped_ends}
 use Rattle.sbp_world.proofs.Hosts.LastingTerms.{AllLast}
-use Rattle.sbp_world.specs.Lists.Needs.{initiator_in}
 use Rattle.sbp_world.proofs.Lists.Awaited.{Starts, line_starts}
 use Rattle.sbp_world.proofs.Lists.Early.{Early, IsRead, stays_early, turn, whole as whole_of}
 use Rattle.sbp_world.proofs.Lists.EarlyTurns.{Leaves, Stood, leaves_hosts, leaves_target, same_before}

@@ -1,46 +1,23 @@
 -- Over a turn that leaves the initiators, or the target and who has its places, what an agent waits for to read in a slot is of the ORB that was prepared
 -- there before the turn.
-use Rattle.std.proofs.Common.{arith, ◌≡◌, ◌∙◌, sym, ap, subst, ◌<◌, ℕ, suc, Bool, true, false, List, ◌++◌, length, Option, Some, None}
-use Rattle.std.specs.Prelude.{slice_index_or}
-use Rattle.std.proofs.lemmas.Option.{same_Some}
-use Rattle.bus_memory.specs.declared.window.Window.{Window}
+use Rattle.sbp_world.proofs.Words.Std.{arith, ◌≡◌, ◌∙◌, sym, ap, subst, ◌<◌, ℕ, suc, Bool, true, false, List, ◌++◌, length, Option, Some, None, slice_index_or, same_Some}
+use Rattle.sbp_world.proofs.Words.Wire.{Holder, holder_at, Access, Moment, Cmd}
+use Rattle.sbp_world.proofs.Words.Target.{Which, Machine, Disk, NodeState, desk_at}
+use Rattle.sbp_world.proofs.Words.Initiator.{Window, IfShare, window_at, slot_of_table, InitiatorState, new_state}
+use Rattle.sbp_world.proofs.Words.Laws.{fifo_in, Orb, command_at, orb, prepared_in, slot_at, term_login, over, target_at, ends}
+use Rattle.sbp_world.proofs.Words.World.{holder, WorldState, initiator_at, has_list, Lasts, name_in, GoesAlong, IsCalm, IsOpenAt, OpenLists, initiator_in, machine_at, slot_in}
 use Rattle.bus_memory.specs.declared.window.Window.TheVariants as windows
-use Rattle.bus_memory.specs.Windows.{IfShare, window_at}
 use Rattle.bus_memory.proofs.Found.{window_share}
-use Rattle.command_agent.specs.declared.step.Which.{Which}
-use Rattle.command_agent.specs.Machine.{Machine}
-use Rattle.orb_list.specs.Table.{slot_in as slot_of_table}
-use Rattle.rbc_disk.specs.Disk.{Disk}
-use Rattle.sbp_bus.specs.declared.places.Holder.{Holder}
-use Rattle.sbp_bus.specs.Places.{holder_at}
-use Rattle.sbp_initiator.specs.declared.state.InitiatorState.{InitiatorState}
-use Rattle.sbp_initiator.specs.Initiators.{new_state}
-use Rattle.sbp_journal.specs.Addresses.{Access}
-use Rattle.sbp_journal.specs.Run.{Moment}
-use Rattle.sbp_journal.specs.declared.event.Cmd.{Cmd}
-use Rattle.sbp_laws.specs.Agents.{fifo_in}
-use Rattle.sbp_laws.specs.Lists.{Orb, command_at, orb, prepared_in, slot_at}
-use Rattle.sbp_laws.specs.Targets.{login_at as term_login, over, target_at}
-use Rattle.sbp_laws.specs.Terms.{ends}
-use Rattle.sbp_target.specs.Nodes.{NodeState, desk_at}
-use Rattle.sbp_world.specs.Telling.{holder}
-use Rattle.sbp_world.specs.Worlds.{WorldState, initiator_at}
 use Rattle.sbp_world.proofs.Agents.Management.Holding.{Holding}
 use Rattle.sbp_world.proofs.Agents.Management.Still.{hist}
-use Rattle.sbp_world.specs.Agents.Alike.{has_list}
-use Rattle.sbp_world.specs.Hosts.Lasting.{Lasts}
-use Rattle.sbp_world.specs.Hosts.Rows.{name_in}
 use Rattle.sbp_world.proofs.Hosts.Lasting.{from_moment}
 use Rattle.sbp_world.proofs.Hosts.PreparedLasts.{placed}
 use Rattle.sbp_world.proofs.Hosts.Readings.{read_law}
-use Rattle.sbp_world.specs.Lists.Along.{GoesAlong}
-use Rattle.sbp_world.specs.Lists.Needs.{IsCalm, IsOpenAt, OpenLists, initiator_in, machine_at}
 use Rattle.sbp_world.proofs.Lists.Bringing.{read_prepared}
 use Rattle.sbp_world.proofs.Lists.Brought.{number_of}
 use Rattle.sbp_world.proofs.Lists.Early.{IsRead}
 use Rattle.sbp_world.proofs.Lists.ReadSlots.{IsIn, is_in, stands}
 use Rattle.sbp_world.proofs.Lists.Sites.{IsPrepared, Site, Waiting, waiting}
-use Rattle.sbp_world.specs.Lists.SentReads.{slot_in}
 use Rattle.sbp_world.proofs.Lists.Slots.{IsFilled}
 use Rattle.sbp_world.proofs.Lists.Told.{AgentAt}
 

@@ -1,29 +1,14 @@
 -- An end that the target tells of, but with the status failed, is of the ORB by whose name its response brought it, where agents have the ORBs prepared last in their slots.
-use Rattle.std.proofs.Common.{◌≡◌, ◌∙◌, refl, sym, ap, subst, ℕ, ◌<◌, Bool, true, false, List, [], ◌∷◌, ◌++◌, map, Option, Some, None, IsSomeAnd}
-use Rattle.std.proofs.lemmas.Option.{same_Some}
+use Rattle.sbp_world.proofs.Words.Std.{◌≡◌, ◌∙◌, refl, sym, ap, subst, ℕ, ◌<◌, Bool, true, false, List, [], ◌∷◌, ◌++◌, map, Option, Some, None, IsSomeAnd, same_Some}
+use Rattle.sbp_world.proofs.Words.Wire.{list_in, orb_in, Moment, said, Note}
+use Rattle.sbp_world.proofs.Words.Target.{AgentStep, Machine, Disk, Told}
+use Rattle.sbp_world.proofs.Words.Initiator.{start_of, CommandOrb, StatusKind, Answer}
+use Rattle.sbp_world.proofs.Words.Laws.{address_of, MatchesStatus, command_at, named_list, named_number, named_orb, prepared_in, slot_at, request_at}
+use Rattle.sbp_world.proofs.Words.World.{ticket_at, Scene, WorldState, is_open_at, EndIsNamed, IsNamedBrought, IsStillBrought}
 use Rattle.bus_memory.specs.declared.window.Window.TheVariants as windows
-use Rattle.bus_memory.specs.Windows.{start as start_of}
-use Rattle.command_agent.specs.declared.step.AgentStep.{AgentStep}
-use Rattle.command_agent.specs.Machine.{Machine}
-use Rattle.orb_layout.specs.declared.command.CommandOrb.{CommandOrb}
-use Rattle.orb_layout.specs.declared.status.StatusKind.{StatusKind}
 use Rattle.orb_layout.specs.declared.status.StatusKind.TheVariants as kinds
-use Rattle.orb_layout.specs.Replies.{Answer}
-use Rattle.rbc_disk.specs.Disk.{Disk}
-use Rattle.rbc_disk.specs.Runs.{Told}
-use Rattle.sbp_bus.specs.Telling.{list_in, orb_in}
-use Rattle.sbp_journal.specs.Run.{Moment, said}
-use Rattle.sbp_journal.specs.declared.note.Note.{Note}
 use Rattle.sbp_journal.specs.declared.note.Note.TheVariants as notes
-use Rattle.sbp_laws.specs.CarriedBytes.{address_of}
-use Rattle.sbp_laws.specs.CarriedLaw.{MatchesStatus}
-use Rattle.sbp_laws.specs.Lists.{command_at, list_in as named_list, number_in as named_number, orb as named_orb, prepared_in, slot_at}
-use Rattle.sbp_laws.specs.Terms.{request_at}
-use Rattle.sbp_world.specs.Telling.{ticket_at}
-use Rattle.sbp_world.specs.Worlds.{Scene, WorldState}
 use Rattle.sbp_world.proofs.Agents.Management.Still.{hist}
-use Rattle.sbp_world.specs.Lists.Needs.{is_open_at}
-use Rattle.sbp_world.specs.Lists.OrbNames.{EndIsNamed, IsNamedBrought, IsStillBrought}
 use Rattle.sbp_world.proofs.Lists.Endless.{IsEndBy, IsPlain}
 use Rattle.sbp_world.proofs.Lists.EndReads.{M as end_machine, answer, asked_so, ends_so, got, i as place_initiator, is_open, k as end_number, light_request, light_slot, list, list_is, matches, named, number, opened, place as end_place, plain, small, step}
 use Rattle.sbp_world.proofs.Lists.NamedPlaces.{HasNames}

@@ -1,53 +1,17 @@
 -- An end that the target tells of, but with the status failed, is of an ORB that a response brought of the place of its ORB: that of its append, or a dummy where it ends so.
-use Rattle.std.proofs.Common.{arith, ◌≡◌, ◌∙◌, refl, sym, ap, subst, ℕ, ◌<◌, ◌≤◌, ◌==◌, Bool, true, false, cond, List, [], ◌∷◌, ◌++◌, map, Option, Some, None, IfSome, IsSomeAnd, Result, Ok, Err}
-use Rattle.std.proofs.lemmas.Bool.Decides.{nat_tests}
-use Rattle.std.proofs.lemmas.Option.{same_Some}
-use Rattle.login_table.specs.declared.login.Login.{Login}
+use Rattle.sbp_world.proofs.Words.Std.{arith, ◌≡◌, ◌∙◌, refl, sym, ap, subst, ℕ, ◌<◌, ◌≤◌, ◌==◌, Bool, true, false, cond, List, [], ◌∷◌, ◌++◌, map, Option, Some, None, IfSome, IsSomeAnd, Result, Ok, Err, nat_tests, same_Some}
+use Rattle.sbp_world.proofs.Words.Wire.{list_in, orb_in, Moment, said, Cmd, Note}
+use Rattle.sbp_world.proofs.Words.Target.{Login, Outcome, Disk, Told, PlainDisk, Phase, AgentStep, Which, Ahead, Main, Machine, is_ahead, advanced, ahead_read, ahead_step, quiet, reply_step, served, told_or, Progress, OrbList, ahead_beside, main_beside, IsEnd, Keeps, WasRead, heard_by, run_by, desk_at, login_at, answer_in, plain_in}
+use Rattle.sbp_world.proofs.Words.Initiator.{start_of, FailCause, CommandOrb, StatusKind, Answer, payload_of}
+use Rattle.sbp_world.proofs.Words.Laws.{address_of, MatchesStatus, command_at, slot_at, Request, ends, request_at}
+use Rattle.sbp_world.proofs.Words.World.{holder, ticket_at, Scene, WorldState, has_list, request_of, EndAt, EndIsRead, IsOrbOf, orbs, IsFor, IsNamed, IsOpenAt, IsBrought}
 use Rattle.login_table.proofs.Searching.{within}
 use Rattle.bus_memory.specs.declared.window.Window.TheVariants as windows
-use Rattle.bus_memory.specs.Windows.{start as start_of}
-use Rattle.orb_layout.specs.declared.ask.FailCause.{FailCause}
-use Rattle.orb_layout.specs.declared.command.CommandOrb.{CommandOrb}
-use Rattle.orb_layout.specs.declared.status.StatusKind.{StatusKind}
 use Rattle.orb_layout.specs.declared.status.StatusKind.TheVariants as kinds
-use Rattle.orb_layout.specs.Replies.{Answer, payload_of}
-use Rattle.rbc_disk.specs.declared.command.Outcome.{Outcome}
-use Rattle.rbc_disk.specs.Disk.{Disk}
-use Rattle.rbc_disk.specs.Runs.{Told}
-use Rattle.rbc_disk.specs.Units.{PlainDisk}
-use Rattle.command_agent.specs.declared.phase.Phase.{Phase}
 use Rattle.command_agent.specs.declared.phase.Phase.TheVariants as phases
-use Rattle.command_agent.specs.declared.step.AgentStep.{AgentStep}
-use Rattle.command_agent.specs.declared.step.Which.{Which}
-use Rattle.command_agent.specs.declared.step.Which.TheVariants.{Ahead, Main}
-use Rattle.command_agent.specs.Machine.{Machine, is_ahead}
-use Rattle.command_agent.specs.Steps.{advanced, ahead_read, ahead_step, quiet, reply_step, served, told_or}
-use Rattle.agent_laws.specs.Along.Along.{Progress}
-use Rattle.agent_laws.specs.Along.Lists.{OrbList}
-use Rattle.agent_laws.specs.Along.Requests.{ahead_beside, main_beside}
-use Rattle.agent_laws.specs.Along.Steps.{IsEnd, Keeps, WasRead, heard_by, run_by}
 use Rattle.agent_laws.proofs.Along.Writes.{keeps_along}
-use Rattle.sbp_bus.specs.Telling.{list_in, orb_in}
-use Rattle.sbp_journal.specs.Run.{Moment, said}
-use Rattle.sbp_journal.specs.declared.event.Cmd.{Cmd}
-use Rattle.sbp_journal.specs.declared.note.Note.{Note}
 use Rattle.sbp_journal.specs.declared.note.Note.TheVariants as notes
-use Rattle.sbp_laws.specs.CarriedBytes.{address_of}
-use Rattle.sbp_laws.specs.CarriedLaw.{MatchesStatus}
-use Rattle.sbp_laws.specs.Lists.{command_at, slot_at}
-use Rattle.sbp_laws.specs.Terms.{Request, ends, request_at}
-use Rattle.sbp_target.specs.Nodes.{desk_at, login_at}
-use Rattle.sbp_target.specs.Receiving.{answer_in}
-use Rattle.sbp_target.specs.Replies.{plain_in}
-use Rattle.sbp_world.specs.Telling.{holder, ticket_at}
-use Rattle.sbp_world.specs.Worlds.{Scene, WorldState}
-use Rattle.sbp_world.specs.Agents.Alike.{has_list}
 use Rattle.sbp_world.proofs.Agents.Management.Still.{hist}
-use Rattle.sbp_world.specs.Hosts.Orbs.{request_of}
-use Rattle.sbp_world.specs.Lists.EndReads.{EndAt, EndIsRead}
-use Rattle.sbp_world.specs.Lists.Lists.{IsOrbOf, orbs}
-use Rattle.sbp_world.specs.Lists.Needs.{IsFor, IsNamed, IsOpenAt}
-use Rattle.sbp_world.specs.Lists.OrbReads.{IsBrought}
 use Rattle.sbp_world.proofs.Lists.Endless.{AllLight, IsEndBy, IsLightNote, IsPlain, light_death, light_run}
 use Rattle.sbp_world.proofs.Lists.Lists.{laid}
 use Rattle.sbp_world.proofs.Lists.OrbFolds.{Brings}

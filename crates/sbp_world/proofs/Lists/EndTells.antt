@@ -1,62 +1,21 @@
 -- What the target tells in a call of the ends of ORBs: of those but with the status failed none; or, as it goes on by the answer to a transaction of an agent, one, that of
 -- the agent's present ORB, behind the run and the death of this agent alone.
-use Rattle.std.proofs.Common.{arith, ◌≡◌, ◌∙◌, refl, sym, ap, subst, ℕ, ◌+◌, ◌<◌, Bool, true, false, cond, List, [], ◌∷◌, ◌++◌, length, Option, Some, None, Result, Ok, Err}
-use Rattle.std.specs.Prelude.{slice_set}
-use Rattle.std.proofs.lemmas.List.{get_or-set_same}
-use Rattle.async_packet.specs.Labels.{LabelParts}
-use Rattle.async_packet.specs.Packet.{Packet, header_in}
-use Rattle.label_table.specs.declared.reply.Stale.{Stale}
-use Rattle.label_table.specs.Layer.{Finding, Layer, answering_step, expiring_step, judging_step, of_again, of_generation, of_grammar, of_label, of_request, of_response}
-use Rattle.login_table.specs.declared.login.Login.{Login}
-use Rattle.login_table.specs.Sound.{IsSound}
+use Rattle.sbp_world.proofs.Words.Std.{arith, ◌≡◌, ◌∙◌, refl, sym, ap, subst, ℕ, ◌+◌, ◌<◌, Bool, true, false, cond, List, [], ◌∷◌, ◌++◌, length, Option, Some, None, Result, Ok, Err, slice_set, get_or-set_same}
+use Rattle.sbp_world.proofs.Words.Wire.{LabelParts, Packet, header_in, Stale, Finding, Layer, answering_step, expiring_step, judging_step, of_again, of_generation, of_grammar, of_label, of_request, of_response, Sent, CutCause, Judged, Side, OutboxState, empty_outbox}
+use Rattle.sbp_world.proofs.Words.Target.{Login, IsSound, Outcome, Disk, disk_at, Held, Told, left_by, PlainDisk, Phase, AgentStep, PointRefusal, Which, Ahead, Main, Machine, is_ahead, state_in, ahead_lost, asks, doorbell_step, is_reset, lost_step, main_lost, quiet, reply_step, Access, Demand, demand_of, Desk, Purpose, cut, follow, noted, told_cut, expired_desk, new_desk, point_desk, taken, which_in, manage, NodeState, Scene, desk_at, login_at, scene, with_agent, with_desk, answer_in, concluded, expire_agent, expired, expired_by, expired_in, expired_with, judged_scene, received, received_as, timed_out, with_layer, Whole, advance, advanced_with, announced_by, came, changed_by, follow_all, plain_in, step_replied, replied_by, replied_to, replied_with, served_login, stage, whole, answer_step, answered_by, with_side, accessed_by, answered, asked_in, enabled, is_barred, point, pointed_by, served_step, ring, rung_by, serve, served_as, start, orb_of, tell_dead, tell_ended, tell_ran, tell_step}
+use Rattle.sbp_world.proofs.Words.Initiator.{Ask, FailCause, OrbPointer, StatusKind, Answer, Expired}
+use Rattle.sbp_world.proofs.Words.World.{whole_of}
 use Rattle.login_table.proofs.Searching.{within}
-use Rattle.orb_layout.specs.declared.ask.Ask.{Ask}
-use Rattle.orb_layout.specs.declared.ask.FailCause.{FailCause}
 use Rattle.orb_layout.specs.declared.ask.FailCause.TheVariants as causes
-use Rattle.orb_layout.specs.declared.pointer.OrbPointer.{OrbPointer}
-use Rattle.orb_layout.specs.declared.status.StatusKind.{StatusKind}
-use Rattle.orb_layout.specs.Replies.{Answer, Expired}
-use Rattle.packet_store.specs.declared.sent.Sent.{Sent}
-use Rattle.rbc_disk.specs.declared.command.Outcome.{Outcome}
-use Rattle.rbc_disk.specs.Disk.{Disk, disk_at}
-use Rattle.rbc_disk.specs.Held.{Held}
-use Rattle.rbc_disk.specs.Runs.{Told, left_by}
-use Rattle.rbc_disk.specs.Units.{PlainDisk}
-use Rattle.command_agent.specs.declared.phase.Phase.{Phase}
 use Rattle.command_agent.specs.declared.phase.Phase.TheVariants as phases
-use Rattle.command_agent.specs.declared.step.AgentStep.{AgentStep}
-use Rattle.command_agent.specs.declared.step.PointRefusal.{PointRefusal}
-use Rattle.command_agent.specs.declared.step.Which.{Which}
-use Rattle.command_agent.specs.declared.step.Which.TheVariants.{Ahead, Main}
-use Rattle.command_agent.specs.Machine.{Machine, is_ahead, state_in}
-use Rattle.command_agent.specs.Steps.{ahead_lost, asks, doorbell_step, is_reset, lost_step, main_lost, quiet, reply_step}
-use Rattle.sbp_journal.specs.declared.cause.CutCause.{CutCause}
 use Rattle.sbp_journal.specs.declared.cause.CutCause.TheVariants as cuts
-use Rattle.sbp_journal.specs.declared.cause.Judged.{Judged}
 use Rattle.sbp_journal.specs.declared.cause.Judged.TheVariants as judgements
-use Rattle.sbp_journal.specs.declared.side.Side.{Side}
 use Rattle.sbp_journal.specs.declared.side.Side.TheVariants as sides
-use Rattle.sbp_journal.specs.Outgoings.{OutboxState, empty_outbox}
-use Rattle.target_base.specs.declared.address.Access.{Access}
 use Rattle.target_base.specs.declared.address.Access.TheVariants as accesses
-use Rattle.target_base.specs.declared.address.Demand.{Demand}
 use Rattle.target_base.specs.declared.address.Demand.TheVariants as demands
-use Rattle.target_base.specs.Addresses.{demand_of}
-use Rattle.sbp_target.specs.declared.desk.Desk.{Desk}
-use Rattle.sbp_target.specs.declared.purpose.Purpose.{Purpose}
 use Rattle.sbp_target.specs.declared.purpose.Purpose.TheVariants as purposes
-use Rattle.sbp_target.specs.Agents.{cut, follow, noted, told_cut}
-use Rattle.sbp_target.specs.Desks.{expired_desk, new_desk, point_desk, taken, which_in}
-use Rattle.sbp_target.specs.Management.{manage}
-use Rattle.sbp_target.specs.Nodes.{NodeState, Scene, desk_at, login_at, scene, with_agent, with_desk}
-use Rattle.sbp_target.specs.Receiving.{answer_in, concluded, expire_agent, expired, expired_by, expired_in, expired_with, judged_scene, received, received_as, timed_out, with_layer}
-use Rattle.sbp_target.specs.Replies.{Whole, advance, advanced_with, announced_by, came, changed_by, follow_all, plain_in, replied as step_replied, replied_by, replied_to, replied_with, served_login, stage, whole}
-use Rattle.sbp_target.specs.Sending.{answer_step, answered_by, with_side}
-use Rattle.sbp_target.specs.Serving.{accessed_by, answered, asked_in, enabled, is_barred, point, pointed_by, request_step as served_step, ring, rung_by, serve, served_as, start}
-use Rattle.sbp_target.specs.Telling.{orb_of, tell_dead, tell_ended, tell_ran, tell_step}
 use Rattle.sbp_target.proofs.Histories.Followed.{TellsDiscs, announces_by, follows as follows_behind}
 use Rattle.sbp_target.proofs.Histories.Views.{Loses}
-use Rattle.sbp_world.specs.Delivering.{whole_of}
 use Rattle.sbp_world.proofs.Lists.OrbSteps.{ends_read}
 use Rattle.sbp_world.proofs.Lists.RunTells.{served_there}
 use Rattle.sbp_world.proofs.Lists.StatusPackets.{EndSide, one_end, or_before, told_end}

@@ -1,25 +1,14 @@
 -- In a run in which lists were open as they should be before, a list of which an ORB has ended had been open at an agent; and so one whose write of ORB_POINTER was
 -- not taken has no end.
-use Rattle.std.proofs.Common.{arith, ◌≡◌, ◌∙◌, refl, ap, subst, ℕ, suc, ◌<◌, nat_eq, nat_lt, Bool, true, false, cond, List, [], ◌∷◌, ◌++◌, map, Some}
-use Rattle.std.proofs.lemmas.Bool.Decides.{nat_tests}
-use Rattle.orb_layout.specs.declared.status.StatusKind.{StatusKind}
-use Rattle.sbp_journal.specs.Run.{Moment, asked, said}
-use Rattle.sbp_journal.specs.Transactions.{Sending}
-use Rattle.sbp_journal.specs.Wire.{terms}
+use Rattle.sbp_world.proofs.Words.Std.{arith, ◌≡◌, ◌∙◌, refl, ap, subst, ℕ, suc, ◌<◌, nat_eq, nat_lt, Bool, true, false, cond, List, [], ◌∷◌, ◌++◌, map, Some, nat_tests}
+use Rattle.sbp_world.proofs.Words.Wire.{Moment, asked, said, Sending, terms}
+use Rattle.sbp_world.proofs.Words.Initiator.{StatusKind}
+use Rattle.sbp_world.proofs.Words.Laws.{injectors, ends}
+use Rattle.sbp_world.proofs.Words.World.{history_of, after, beginning, after_all, begun, PointersAt, pointed_list, WasHad, EndedListsLaw, AreNamedFor}
 use Rattle.sbp_journal.specs.declared.note.Note.TheVariants as notes
-use Rattle.sbp_laws.specs.Lawful.{injectors}
-use Rattle.sbp_laws.specs.Terms.{ends}
-use Rattle.sbp_world.specs.Histories.{history_of}
-use Rattle.sbp_world.specs.Runs.{after, beginning}
-use Rattle.sbp_world.specs.Settling.{after_all}
-use Rattle.sbp_world.specs.Worlds.{begun}
-use Rattle.sbp_world.specs.Pointers.Pointers.{PointersAt, pointed_list}
-use Rattle.sbp_world.specs.Lists.CutLists.{WasHad}
-use Rattle.sbp_world.specs.Lists.EndedLists.{EndedListsLaw}
 use Rattle.sbp_world.proofs.Lists.Histories.{after_lines, between}
 use Rattle.sbp_world.proofs.Lists.Later.{had_next}
 use Rattle.sbp_world.proofs.Lists.OpenNews.{got_news}
-use Rattle.sbp_world.specs.Lists.Places.{AreNamedFor}
 use Rattle.sbp_world.proofs.Lists.OpenUncut.{had_for}
 use Rattle.sbp_world.proofs.Lists.Passing.{EndsNext, PassLaw}
 

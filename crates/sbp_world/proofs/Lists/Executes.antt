@@ -1,37 +1,15 @@
 -- In every run a command runs on the unit of a live login of its initiator; where lists were open as they should be before, the command of an ORB of an initiator that
 -- injected no packets has the outcome that the plain disk allows for its request; and with the laws of lists this is the execution law.
-use Rattle.std.proofs.Common.{arith, ◌≡◌, ◌∙◌, inl, inr, ◌⊎◌, refl, sym, ap, subst, ℕ, ◌+◌, ◌^◌, ◌<◌, ◌≤◌, Bool, true, false, List, [], ◌∷◌, ◌++◌, map, length, Option, Some, None}
-use Rattle.std.proofs.lemmas.Option.{same_Some}
-use Rattle.bus_transactions.specs.Judging.{AreJudged}
-use Rattle.bus_transactions.specs.May.{is_reset}
-use Rattle.rbc_disk.specs.Disk.{Disk}
-use Rattle.rbc_disk.specs.Runs.{Told}
-use Rattle.sbp_bus.specs.Packets.{end_note, judged_note}
-use Rattle.sbp_bus.specs.Places.{or_nobody}
-use Rattle.sbp_bus.specs.declared.places.Holder.{Holder}
-use Rattle.sbp_journal.specs.declared.cause.Judged.{Judged}
+use Rattle.sbp_world.proofs.Words.Std.{arith, ◌≡◌, ◌∙◌, inl, inr, ◌⊎◌, refl, sym, ap, subst, ℕ, ◌+◌, ◌^◌, ◌<◌, ◌≤◌, Bool, true, false, List, [], ◌∷◌, ◌++◌, map, length, Option, Some, None, same_Some}
+use Rattle.sbp_world.proofs.Words.Wire.{AreJudged, is_reset, end_note, judged_note, or_nobody, Holder, Judged, Event, Note, Moment, asked, said, Terms, terms}
+use Rattle.sbp_world.proofs.Words.Target.{Disk, Told}
+use Rattle.sbp_world.proofs.Words.Laws.{ExecutionAt, ExecutionLaw, injectors, linked, orb, slot_at, ends, EachMoment}
+use Rattle.sbp_world.proofs.Words.World.{history_of, moments_behind, MayHappen, happens, ready_logins, is_in_flight, may_repeat, AreEntries, Entry, Run, after, beginning, MayAll, MayNext, after_all, delivered_at, delivered_next, is_settled, lowest, holder, AreLines, IsLine, Scene, WorldState, begun, initiator_at, without_notes, DeliversMore, HoldsOrbs, IsRun, more_deliveries, ReadAt, RunsAreRead, RunsReadLaw, EndAt, EndsAreRead, EndsReadLaw, DueRunsLaw, FedAt, RunsAreFed, RunsFedLaw, ExecutionRunLaw, LoginAt, LoginsLaw, LoginsRunLaw, OutcomeAt, OutcomesLaw, OutcomesRunLaw, IsCalm, IsNamed, OpenAfter, OpenBefore, OpenBetween, OpenIn, OpenLists, OpenWhile, OpensLaw, AskedAsGot, ListsAt, RunsAt, RunsLaw, AreLed, IsTameOrFew, ClosingLaw, OpenListsLaw, AreAskedAt}
 use Rattle.sbp_journal.specs.declared.cause.Judged.TheVariants as judgements
-use Rattle.sbp_journal.specs.declared.event.Event.{Event}
 use Rattle.sbp_journal.specs.declared.event.Event.TheVariants as events
-use Rattle.sbp_journal.specs.declared.note.Note.{Note}
 use Rattle.sbp_journal.specs.declared.note.Note.TheVariants as notes
-use Rattle.sbp_journal.specs.Run.{Moment, asked, said}
-use Rattle.sbp_journal.specs.Wire.{Terms, opened as opened_by, terms}
-use Rattle.sbp_laws.specs.ExecutionLaw.{ExecutionAt, ExecutionLaw}
-use Rattle.sbp_laws.specs.Lawful.{injectors}
-use Rattle.sbp_laws.specs.Lists.{linked, orb, slot_at}
-use Rattle.sbp_laws.specs.Terms.{ends}
-use Rattle.sbp_laws.specs.Turns.{EachMoment}
-use Rattle.sbp_world.specs.Histories.{history_of, moments_behind}
-use Rattle.sbp_world.specs.Lines.{MayHappen, happens}
-use Rattle.sbp_world.specs.Making.{ready_logins}
-use Rattle.sbp_world.specs.Packets.{is_in_flight, may_repeat}
-use Rattle.sbp_world.specs.Runs.{AreEntries, Entry, Run, after, beginning}
-use Rattle.sbp_world.specs.Settling.{MayAll, MayAt, MayNext, after_all, delivered_at, delivered_next, is_settled, lowest}
-use Rattle.sbp_world.specs.Telling.{holder}
-use Rattle.sbp_world.specs.Wire.Lines.{AreLines, IsLine}
-use Rattle.sbp_world.specs.Worlds.{Scene, WorldState, begun, initiator_at, without_notes}
-use Rattle.sbp_world.specs.Agents.Management.Terms.{DeliversMore}
+use Rattle.sbp_journal.specs.Wire.{opened as opened_by}
+use Rattle.sbp_world.specs.Settling.{MayAt}
 use Rattle.sbp_world.proofs.Agents.Management.Holding.{Holding}
 use Rattle.sbp_world.proofs.Agents.Management.Lines.{opens}
 use Rattle.sbp_world.proofs.Agents.Management.Runs.{no_repeats, not_reset}
@@ -42,19 +20,9 @@ use Rattle.sbp_world.proofs.Agents.Seats.{Seats}
 use Rattle.sbp_world.proofs.Agents.Units.{AreThe, units_after}
 use Rattle.sbp_world.proofs.Agents.UnitsLines.{Units, all_units, opened as units_opened}
 use Rattle.sbp_world.proofs.Agents.UnitsTold.{AreFound, IsFoundBy}
-use Rattle.sbp_world.specs.Hosts.Orbs.{HoldsOrbs}
-use Rattle.sbp_world.specs.Hosts.Runs.{IsRun, more_deliveries}
 use Rattle.sbp_world.proofs.Hosts.Orbs.{orbs_law}
 use Rattle.sbp_world.proofs.Hosts.Runs.{count_after, count_between, are_told}
-use Rattle.sbp_world.specs.Lists.CarriedRuns.{ReadAt, RunsAreRead, RunsReadLaw}
-use Rattle.sbp_world.specs.Lists.EndReads.{EndAt, EndsAreRead, EndsReadLaw}
-use Rattle.sbp_world.specs.Lists.DueRuns.{DueRunsLaw}
-use Rattle.sbp_world.specs.Lists.FedRuns.{FedAt, RunsAreFed, RunsFedLaw}
-use Rattle.sbp_world.specs.Lists.Execution.{ExecutionRunLaw, LoginAt, LoginsLaw, LoginsRunLaw, OutcomeAt, OutcomesLaw, OutcomesRunLaw}
-use Rattle.sbp_world.specs.Lists.Needs.{IsCalm, IsNamed, OpenAfter, OpenBefore, OpenBetween, OpenIn, OpenLists, OpenWhile}
-use Rattle.sbp_world.specs.Lists.Opens.{OpensLaw}
-use Rattle.sbp_world.specs.Lists.OrbReads.{AskedAsGot}
-use Rattle.sbp_world.specs.Lists.Running.{ListsAt, ListsLaw, RunsAt, RunsLaw}
+use Rattle.sbp_world.specs.Lists.Running.{ListsLaw}
 use Rattle.sbp_world.proofs.Lists.Beside.{tame_or_few_before}
 use Rattle.sbp_world.proofs.Lists.Calm.{asked_calm, calm_before}
 use Rattle.sbp_world.proofs.Lists.DueRuns.{AtDelivery}
@@ -74,15 +42,11 @@ use Rattle.sbp_world.proofs.Lists.FedStillReads.{AreFedStill}
 use Rattle.sbp_world.proofs.Lists.FedStillRuns.{fed_everywhere}
 use Rattle.sbp_world.proofs.Lists.StillRuns.{still_everywhere}
 use Rattle.sbp_world.proofs.Lists.StillReads.{AreStill}
-use Rattle.sbp_world.specs.Lists.OrbNames.{AreLed}
-use Rattle.sbp_world.specs.Lists.FewLogins.{IsTameOrFew}
-use Rattle.sbp_world.specs.Lists.Closes.{ClosingLaw, OpenListsLaw}
 use Rattle.sbp_world.proofs.Lists.Courses.{EveryPlace, more_than_one}
 use Rattle.sbp_world.proofs.Lists.OpenProved.{opens_law, nobody_needs}
 use Rattle.sbp_world.proofs.Lists.OrbLines.{line_reads}
 use Rattle.sbp_world.proofs.Lists.OrbPlaces.{HasReads, has_reads}
 use Rattle.sbp_world.proofs.Lists.OrbWaits.{asked_everywhere, delivering_asks, repeating_asks}
-use Rattle.sbp_world.specs.Agents.AskedRuns.{AreAskedAt}
 use Rattle.sbp_world.proofs.Lists.Passes.{Facts, ready}
 use Rattle.sbp_world.proofs.Lists.Passing.{PassLaw}
 use Rattle.sbp_world.proofs.Lists.RunFits.{stands_asked}

@@ -1,23 +1,10 @@
 -- What a node hands out, and a delivery, stand behind the notes that there are.
-use Rattle.std.proofs.Common.{◌≡◌, ◌∙◌, refl, sym, ap, subst, ℕ, ◌+◌, ◌-◌, ◌==◌, ◌||◌, not, nat_lt, Bool, true, false, cond, List, [], ◌∷◌, ◌++◌, length, Option, Some, None}
-use Rattle.async_packet.specs.Labels.{LabelParts}
-use Rattle.packet_store.specs.declared.sent.Sent.{Sent}
-use Rattle.packet_store.specs.Kept.{found_sent, is_flying}
-use Rattle.packet_store.specs.Stored.{deliver_step}
-use Rattle.rbc_disk.specs.Runs.{Told}
-use Rattle.sbp_bus.specs.Generations.{node_of}
-use Rattle.sbp_bus.specs.Packets.{judged_note}
-use Rattle.sbp_journal.specs.declared.note.Note.{Note}
-use Rattle.sbp_journal.specs.declared.outbox.Outgoing.{Outgoing}
-use Rattle.sbp_journal.specs.declared.side.Side.{Side}
+use Rattle.sbp_world.proofs.Words.Std.{◌≡◌, ◌∙◌, refl, sym, ap, subst, ℕ, ◌+◌, ◌-◌, ◌==◌, ◌||◌, not, nat_lt, Bool, true, false, cond, List, [], ◌∷◌, ◌++◌, length, Option, Some, None}
+use Rattle.sbp_world.proofs.Words.Wire.{LabelParts, Sent, found_sent, is_flying, deliver_step, node_of, judged_note, Note, Outgoing, Side, OutboxState}
+use Rattle.sbp_world.proofs.Words.Target.{Told}
+use Rattle.sbp_world.proofs.Words.World.{Arrival, arrived, arrived_by, at_none, at_target, delivered, delivered_by, initiator_received, initiators_received, marked, received_by, received_step, target_received, handed_out, asked, posted, sent, sent_all, sent_to, told, told_all, Scene, WorldState, with_note}
 use Rattle.sbp_journal.specs.declared.side.Side.TheVariants as sides
-use Rattle.sbp_journal.specs.Outgoings.{OutboxState}
-use Rattle.sbp_world.specs.declared.parts.delivering.Arrival.{Arrival}
-use Rattle.sbp_world.specs.Delivering.{arrived, arrived_by, at_initiator, at_none, at_target, delivered, delivered_by, initiator_received, initiators_received, marked, received_by, received_step, target_received}
-use Rattle.sbp_world.specs.Handing.{handed_out}
-use Rattle.sbp_world.specs.Sending.{asked, posted, sent, sent_all, sent_to}
-use Rattle.sbp_world.specs.Telling.{told, told_all}
-use Rattle.sbp_world.specs.Worlds.{Scene, WorldState, with_note}
+use Rattle.sbp_world.specs.Delivering.{at_initiator}
 use Rattle.sbp_world.proofs.Common.{notes_joined}
 
 pub record Extends (old new : List Note) : Type 0 where

@@ -1,15 +1,11 @@
 -- Serials count and responses answer what waits for them in every run; and where no initiator injected packets, no node did.
-use Rattle.std.proofs.Common.{◌≡◌, refl, subst, ℕ, false, List, ◌∷◌}
+use Rattle.sbp_world.proofs.Words.Std.{◌≡◌, refl, subst, ℕ, false, List, ◌∷◌}
+use Rattle.sbp_world.proofs.Words.Wire.{SerialsCount, Moment, Terms, terms}
+use Rattle.sbp_world.proofs.Words.Target.{Disk}
+use Rattle.sbp_world.proofs.Words.Laws.{EachMoment}
+use Rattle.sbp_world.proofs.Words.World.{ready_logins, WorldState, AnswersAt}
 use Rattle.sbp_world.proofs.Agents.Management.Holding.{past_terms}
-use Rattle.bus_transactions.specs.Packets.{SerialsCount}
-use Rattle.rbc_disk.specs.Disk.{Disk}
-use Rattle.sbp_journal.specs.Run.{Moment}
-use Rattle.sbp_journal.specs.Wire.{Terms, terms}
 use Rattle.sbp_journal.specs.declared.note.Note.TheVariants as notes
-use Rattle.sbp_laws.specs.Turns.{EachMoment}
-use Rattle.sbp_world.specs.Making.{ready_logins}
-use Rattle.sbp_world.specs.Worlds.{WorldState}
-use Rattle.sbp_world.specs.Lists.OrbReads.{AnswersAt}
 use Rattle.sbp_world.proofs.Lists.AnswerGots.{answers_at}
 use Rattle.sbp_world.proofs.Lists.Calm.{injects_before}
 use Rattle.sbp_world.proofs.Lists.Courses.{EveryPlace, Keeps, at_between, at_lines}

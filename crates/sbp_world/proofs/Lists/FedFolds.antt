@@ -1,15 +1,9 @@
 -- What is said of the machine of each agent of the terms of the target, by its place, where each step of an agent keeps it: what is done with an agent keeps it.
-use Rattle.std.proofs.Common.{◌≡◌, refl, sym, subst, ℕ, Bool, true, false, cond, Option}
-use Rattle.command_agent.specs.declared.step.Which.{Which}
-use Rattle.command_agent.specs.declared.step.Which.TheVariants.{Ahead, Main}
-use Rattle.command_agent.specs.Machine.{Machine, new_machine}
-use Rattle.command_agent.specs.Steps.{abort_step, doorbell_step, lost_step, point_step, reply_step, reset_step}
+use Rattle.sbp_world.proofs.Words.Std.{◌≡◌, refl, sym, subst, ℕ, Bool, true, false, cond, Option}
+use Rattle.sbp_world.proofs.Words.Target.{Which, Ahead, Main, Machine, new_machine, abort_step, doorbell_step, lost_step, point_step, reply_step, reset_step, Told, PlainDisk}
+use Rattle.sbp_world.proofs.Words.Initiator.{OrbPointer, Answer, Expired}
+use Rattle.sbp_world.proofs.Words.Laws.{Agent, Reply, Target, ahead_lost, is_nothing, main_lost, moved, over, sends_of, wants}
 use Rattle.orb_layout.specs.declared.ask.FailCause.TheVariants as causes
-use Rattle.orb_layout.specs.declared.pointer.OrbPointer.{OrbPointer}
-use Rattle.orb_layout.specs.Replies.{Answer, Expired}
-use Rattle.rbc_disk.specs.Runs.{Told}
-use Rattle.rbc_disk.specs.Units.{PlainDisk}
-use Rattle.sbp_laws.specs.Targets.{Agent, Reply, Target, ahead_lost, is_nothing, main_lost, moved, over, sends_of, wants}
 use Rattle.sbp_world.proofs.Lists.AgentFolds as agents
 use Rattle.sbp_world.proofs.Lists.AgentFolds.{AreKept, Every}
 

@@ -1,45 +1,24 @@
 -- What is known of the buffer and the data that each agent of the target has goes on over the moments of a history: where what is known of an ORB that a response brought, and of the reads since
 -- the agent turned to it, goes on, and where it is known of the ORB that a packet brings which is got.
-use Rattle.std.proofs.Common.{arith, map, ◌≡◌, ◌∙◌, refl, sym, ap, subst, ◌<◌, ◌==◌, ℕ, ◌+◌, ◌*◌, Bool, true, false, cond, length, append-nil, append_assoc, List, [], ◌∷◌, ◌++◌, Option, Some, None, Ok}
-use Rattle.std.proofs.lemmas.Bool.Decides.{nat_tests}
-use Rattle.agent_laws.specs.Along.Requests.{main_ask}
-use Rattle.sbp_world.specs.Agents.AskedRuns.{AreAskedAt, IsAccessFor, read_access, serial_of}
+use Rattle.sbp_world.proofs.Words.Std.{arith, map, ◌≡◌, ◌∙◌, refl, sym, ap, subst, ◌<◌, ◌==◌, ℕ, ◌+◌, ◌*◌, Bool, true, false, cond, length, append_assoc, List, [], ◌∷◌, ◌++◌, Option, Some, None, Ok, nat_tests, unwrap_or}
+use Rattle.sbp_world.proofs.Words.Wire.{Access, Moment, asked, said, Terms, terms, Note, judged_note, Judged, Event}
+use Rattle.sbp_world.proofs.Words.Target.{main_ask, ReadAhead, Which, Ahead, Main, Machine, aligned, chunk_of, limit_of, Disk, writes_status}
+use Rattle.sbp_world.proofs.Words.Initiator.{Ask, CommandOrb, At, Answer, payload_of}
+use Rattle.sbp_world.proofs.Words.Laws.{Moved, moved_by, payload_at, fifo_in, access_at, answer_in, answered_at, id_for, packet_at, receiver_in, sender_in, Purpose, Reply, Target, agent_at, for_agent, for_manager, for_nobody, is_serial, got_by, known_at, login_at, manager_step, over, purpose_of, replied_to, target_at, target_by, EachMoment}
+use Rattle.sbp_world.proofs.Words.World.{AreAskedAt, IsAccessFor, read_access, serial_of, is_main_of, main_moved, main_read, own_reads, AskedAsGot}
+use Rattle.std.proofs.Common.{append-nil}
 use Rattle.sbp_world.proofs.Agents.Management.Firsts.{wire_is}
 use Rattle.command_agent.specs.declared.phase.Phase.TheVariants as phases
-use Rattle.command_agent.specs.declared.phase.ReadAhead.{ReadAhead}
 use Rattle.command_agent.specs.declared.phase.ReadAhead.TheVariants as aheads
-use Rattle.command_agent.specs.declared.step.Which.{Which}
-use Rattle.command_agent.specs.declared.step.Which.TheVariants.{Ahead, Main}
-use Rattle.command_agent.specs.Machine.{Machine, aligned, chunk_of, limit_of}
-use Rattle.orb_layout.specs.declared.ask.Ask.{Ask}
 use Rattle.orb_layout.specs.declared.ask.Ask.TheVariants as requests
-use Rattle.orb_layout.specs.declared.command.CommandOrb.{CommandOrb}
-use Rattle.orb_layout.specs.declared.pointer.OrbPointer.TheVariants.{At}
-use Rattle.orb_layout.specs.Replies.{Answer, payload_of}
-use Rattle.rbc_disk.specs.Disk.{Disk}
-use Rattle.sbp_journal.specs.Addresses.{Access}
-use Rattle.sbp_journal.specs.Run.{Moment, asked, said}
-use Rattle.sbp_journal.specs.Wire.{Terms, terms}
-use Rattle.sbp_journal.specs.declared.note.Note.{Note}
 use Rattle.sbp_journal.specs.declared.note.Note.TheVariants as notes
-use Rattle.sbp_laws.specs.CarriedBytes.{Moved, bytes_in, moved_by, payload_at}
-use Rattle.command_agent.specs.Tasks.{writes_status}
-use Rattle.sbp_laws.specs.Agents.{fifo_in}
-use Rattle.sbp_laws.specs.Packets.{access_at, answer_in, answered_at, id_for, packet_at, receiver_in, sender_in}
-use Rattle.sbp_laws.specs.Targets.{Purpose, Reply, Target, agent_at, for_agent, for_manager, for_nobody, is_serial, got_by, known_at, login_at, manager_step, over, purpose_of, replied_to, target_at, target_by}
-use Rattle.sbp_laws.specs.Turns.{EachMoment}
-use Rattle.std.specs.Prelude.{unwrap_or}
-use Rattle.sbp_world.specs.Lists.FedRuns.{is_main_of, main_moved, main_read, own_reads}
-use Rattle.sbp_world.specs.Lists.OrbReads.{AskedAsGot}
+use Rattle.sbp_laws.specs.CarriedBytes.{bytes_in}
 use Rattle.sbp_world.proofs.Lists.Brought.{paid}
 use Rattle.sbp_world.proofs.Lists.FedFolds.{AreSo, AreStill, IsKept, Pends, over_still, so}
 use Rattle.sbp_world.proofs.Lists.FedNotes.{managed_kept, note_kept, request_kept}
 use Rattle.sbp_world.proofs.Lists.FedPieces.{IsPiece, all_bytes, all_more, turn_more}
 use Rattle.sbp_world.proofs.Lists.FedSteps.{Feeding, Hears, IsFed, abort_feeds, ahead_steps, bell_feeds, late_feeds, lost_feeds, main_steps, new_feeds, point_feeds, reset_feeds, unheard_feeds}
-use Rattle.sbp_bus.specs.Packets.{judged_note}
-use Rattle.sbp_journal.specs.declared.cause.Judged.{Judged}
 use Rattle.sbp_journal.specs.declared.cause.Judged.TheVariants as judgements
-use Rattle.sbp_journal.specs.declared.event.Event.{Event}
 use Rattle.sbp_world.proofs.Lists.OrbNotes.{GotBrings}
 use Rattle.sbp_world.proofs.Lists.OrbSteps.{ReadAheadOf, holds_read}
 use Rattle.sbp_world.proofs.Lists.Quiet.{AllQuiet, IsQuiet}

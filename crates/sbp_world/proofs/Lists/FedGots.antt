@@ -1,37 +1,15 @@
 -- At a place of a run, where lists are open as they should be, a packet that answers what an agent waits for brings of an initiator that injected no packets and has a list open what the main transaction
 -- of the agent of this list brought, or what begins elsewhere than in page tables and buffers.
-use Rattle.std.proofs.Common.{arith, ◌≡◌, ◌∙◌, refl, sym, ap, subst, inl, inr, ◌<◌, ◌==◌, ◌&&◌, ℕ, suc, Bool, true, false, cond, List, [], Option, Some}
-use Rattle.std.proofs.lemmas.Bool.Decides.{nat_tests}
-use Rattle.bus_memory.specs.Windows.{window_at}
-use Rattle.bus_transactions.specs.Reached.{IsAwaited}
+use Rattle.sbp_world.proofs.Words.Std.{arith, ◌≡◌, ◌∙◌, refl, sym, ap, subst, inl, inr, ◌<◌, ◌==◌, ◌&&◌, ℕ, suc, Bool, true, false, cond, List, [], Option, Some, nat_tests}
+use Rattle.sbp_world.proofs.Words.Wire.{IsAwaited, Access, Moment, Sending, Transaction, between, Terms, terms}
+use Rattle.sbp_world.proofs.Words.Target.{Which, Ahead, Main, Machine, Disk, ahead_ask, ReadAhead}
+use Rattle.sbp_world.proofs.Words.Initiator.{window_at, OrbPointer, At, Null}
+use Rattle.sbp_world.proofs.Words.Laws.{fifo_in, Moved, moved_by, payload_at, read_by, slot_at, access_at, answered_at, receiver_in, sender_in, Purpose, Target, agent_at, for_agent, is_serial, term_login, over, purpose_of, target_at}
+use Rattle.sbp_world.proofs.Words.World.{WorldState, IsAccessFor, serial_of, Stands, AreAlong, GoesAlong, AllElsewhere, IsOwnOrOther, is_main_of, main_moved, main_read, IsCalm, IsOpenAt, OpenLists, initiator_in, is_open_at, machine_at, AreOwnGots, data_slot}
 use Rattle.bus_transactions.proofs.Reaches.{goes_on}
-use Rattle.command_agent.specs.declared.step.Which.{Which}
-use Rattle.command_agent.specs.declared.step.Which.TheVariants.{Ahead, Main}
-use Rattle.command_agent.specs.Machine.{Machine}
-use Rattle.rbc_disk.specs.Disk.{Disk}
-use Rattle.sbp_journal.specs.Addresses.{Access}
-use Rattle.sbp_journal.specs.Run.{Moment}
-use Rattle.sbp_journal.specs.Transactions.{Sending, Transaction, between}
-use Rattle.sbp_journal.specs.Wire.{Terms, terms}
-use Rattle.sbp_laws.specs.Agents.{fifo_in}
-use Rattle.sbp_laws.specs.CarriedBytes.{Moved, moved_by, payload_at, read_by}
-use Rattle.sbp_laws.specs.Lists.{slot_at}
-use Rattle.sbp_laws.specs.Packets.{access_at, answered_at, receiver_in, sender_in}
-use Rattle.sbp_laws.specs.Targets.{Purpose, Target, agent_at, for_agent, is_serial, login_at as term_login, over, purpose_of, target_at}
-use Rattle.sbp_world.specs.Worlds.{WorldState}
-use Rattle.sbp_world.specs.Agents.AskedRuns.{IsAccessFor, serial_of}
-use Rattle.agent_laws.specs.Along.Requests.{ahead_ask}
-use Rattle.command_agent.specs.declared.phase.ReadAhead.{ReadAhead}
 use Rattle.command_agent.specs.declared.phase.ReadAhead.TheVariants as aheads
-use Rattle.orb_layout.specs.declared.pointer.OrbPointer.{OrbPointer}
-use Rattle.orb_layout.specs.declared.pointer.OrbPointer.TheVariants.{At, Null}
-use Rattle.sbp_world.specs.Wire.Wires.{Stands}
 use Rattle.sbp_world.proofs.Agents.Management.Holding.{Holding, past_terms}
 use Rattle.sbp_world.proofs.Agents.Management.Still.{hist}
-use Rattle.sbp_world.specs.Lists.Along.{AreAlong, GoesAlong}
-use Rattle.sbp_world.specs.Lists.FedRuns.{AllElsewhere, IsOwnOrOther, is_main_of, main_moved, main_read}
-use Rattle.sbp_world.specs.Lists.Needs.{IsCalm, IsOpenAt, OpenLists, initiator_in, is_open_at, machine_at}
-use Rattle.sbp_world.specs.Lists.OwnReads.{AreOwnGots, data_slot}
 use Rattle.sbp_world.proofs.Lists.Bringing.{read_prepared}
 use Rattle.sbp_world.proofs.Lists.Brought.{number_of}
 use Rattle.sbp_world.proofs.Lists.BegunBy.{held_by}

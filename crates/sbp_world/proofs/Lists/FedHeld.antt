@@ -1,18 +1,12 @@
 -- What a label waits for, by the history (IEEE 1394-1995, split transactions): a request that it waited for before, or one that was sent since. A response that closes its transaction leaves
 -- the label free.
-use Rattle.std.proofs.Common.{arith, ◌≡◌, ◌∙◌, refl, sym, ap, inl, inr, ◌⊎◌, ◌<◌, ◌+◌, ◌==◌, nat_eq, ℕ, Bool, true, false, cond, List, [], ◌∷◌, ◌++◌, Option, Some, None}
-use Rattle.std.proofs.lemmas.Bool.Decides.{nat_tests}
-use Rattle.bus_transactions.specs.Packets.{SerialsCount}
-use Rattle.async_packet.specs.Fields.{rcode_of}
-use Rattle.sbp_journal.specs.Run.{Moment, asked, said}
-use Rattle.sbp_journal.specs.Transactions.{Kind, Part, Sending, Transaction, asked_by, at, begun_by, between, is_same, is_same_kind, is_to, no_packet, part_of, request, response}
-use Rattle.sbp_journal.specs.Wire.{Held, Terms, arrives, begins, begun_in, closes, closes_if, free, gets, gets_as, ignores, ignores_that, is_news, is_served, judges_if, kind_in, noted, puts, rests, sends, terms, times_out, waits}
-use Rattle.sbp_journal.specs.declared.cause.Cause.{Cause}
+use Rattle.sbp_world.proofs.Words.Std.{arith, ◌≡◌, ◌∙◌, refl, sym, ap, inl, inr, ◌⊎◌, ◌<◌, ◌+◌, ◌==◌, nat_eq, ℕ, Bool, true, false, cond, List, [], ◌∷◌, ◌++◌, Option, Some, None, nat_tests}
+use Rattle.sbp_world.proofs.Words.Wire.{SerialsCount, rcode_of, Moment, asked, said, Kind, Part, Sending, Transaction, asked_by, at, begun_by, between, is_same, is_same_kind, is_to, part_of, request, response, Held, Terms, arrives, begins, begun_in, closes, closes_if, free, gets, gets_as, ignores, ignores_that, is_news, is_served, judges_if, kind_in, noted, puts, rests, sends, terms, times_out, waits, Cause, Note}
+use Rattle.sbp_world.proofs.Words.Laws.{closed_by}
+use Rattle.sbp_journal.specs.Transactions.{no_packet}
 use Rattle.sbp_journal.specs.declared.cause.Cause.TheVariants as causes
 use Rattle.sbp_journal.specs.declared.event.Event.TheVariants as events
-use Rattle.sbp_journal.specs.declared.note.Note.{Note}
 use Rattle.sbp_journal.specs.declared.note.Note.TheVariants as notes
-use Rattle.sbp_laws.specs.Packets.{closed_by}
 use Rattle.sbp_world.proofs.Hosts.Remaining.{remains}
 use Rattle.sbp_world.proofs.Hosts.SentMoments.{sent_below, serials_from}
 use Rattle.sbp_world.proofs.Hosts.Held.{sends_sent, pays_held}

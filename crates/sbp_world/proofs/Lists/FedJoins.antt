@@ -1,35 +1,14 @@
 -- The buffer and the data of each command that runs, of an initiator that injected no packets, are those by all that the target got of the initiator since the response that brought its ORB, where the
 -- others begin elsewhere than in the page table and the buffer of its slot.
-use Rattle.std.proofs.Common.{arith, ◌≡◌, ◌∙◌, refl, sym, ap, subst, ℕ, suc, Bool, false, append_assoc, List, [], ◌∷◌, ◌++◌, map, Option, Some, None, cond}
+use Rattle.sbp_world.proofs.Words.Std.{arith, ◌≡◌, ◌∙◌, refl, sym, ap, subst, ℕ, suc, Bool, false, append_assoc, List, [], ◌∷◌, ◌++◌, map, Option, Some, None, cond}
+use Rattle.sbp_world.proofs.Words.Wire.{AreJudged, Moment, asked, said, Sending, terms, Note}
+use Rattle.sbp_world.proofs.Words.Target.{limit_of, Disk}
+use Rattle.sbp_world.proofs.Words.Initiator.{CommandOrb, Segment, bytes_of, chunks, single, elements_of}
+use Rattle.sbp_world.proofs.Words.Laws.{Moved, address_of, buffer_in, joined, orb_read, read_at, reads_since, slot_at, answered_at, receiver_in, sender_in, plan_of, request_at, EachMoment, injectors}
+use Rattle.sbp_world.proofs.Words.World.{history_of, after, beginning, after_all, begun, more_deliveries, OpenListsLaw, RunIsNamedFed, IsCalm, AreBeside, AreOwnOrOthers, RunIsFed, RunIsSince, RunsSinceLaw, SinceAt, own_reads, NoneAgain}
 use Rattle.std.specs.Prelude.{IsSomeAnd}
-use Rattle.bus_transactions.specs.Judging.{AreJudged}
-use Rattle.command_agent.specs.Machine.{limit_of}
-use Rattle.orb_layout.specs.declared.command.CommandOrb.{CommandOrb}
-use Rattle.page_table.specs.declared.segment.Segment.{Segment}
-use Rattle.page_table.specs.Buffer.{bytes_of, chunks, single}
-use Rattle.page_table.specs.Elements.{elements_of}
-use Rattle.rbc_disk.specs.Disk.{Disk}
-use Rattle.sbp_journal.specs.Run.{Moment, asked, said}
-use Rattle.sbp_journal.specs.Transactions.{Sending}
-use Rattle.sbp_journal.specs.Wire.{terms}
-use Rattle.sbp_journal.specs.declared.note.Note.{Note}
 use Rattle.sbp_journal.specs.declared.note.Note.TheVariants as notes
-use Rattle.sbp_laws.specs.CarriedBytes.{Moved, address_of, buffer_in, joined, orb_read, read_at, reads_since}
-use Rattle.sbp_laws.specs.Lists.{slot_at}
-use Rattle.sbp_laws.specs.Packets.{answered_at, receiver_in, sender_in}
-use Rattle.sbp_laws.specs.Terms.{plan_of, request_at}
-use Rattle.sbp_laws.specs.Turns.{EachMoment}
-use Rattle.sbp_laws.specs.Lawful.{injectors}
-use Rattle.sbp_world.specs.Histories.{history_of}
-use Rattle.sbp_world.specs.Runs.{after, beginning}
-use Rattle.sbp_world.specs.Settling.{after_all}
-use Rattle.sbp_world.specs.Worlds.{begun}
-use Rattle.sbp_world.specs.Hosts.Runs.{more_deliveries}
-use Rattle.sbp_world.specs.Lists.Closes.{OpenListsLaw}
-use Rattle.sbp_world.specs.Lists.FedNames.{RunIsNamedFed}
-use Rattle.sbp_world.specs.Lists.Needs.{IsCalm}
-use Rattle.sbp_world.specs.Lists.FedRuns.{AreBeside, AreOthers, AreOwnOrOthers, RunIsFed, RunIsSince, RunsSinceLaw, SinceAt, own_reads}
-use Rattle.sbp_world.specs.Lists.GotOnce.{NoneAgain}
+use Rattle.sbp_world.specs.Lists.FedRuns.{AreOthers}
 use Rattle.sbp_world.proofs.Lists.Fair.{Told, told_before, told_everywhere}
 use Rattle.sbp_world.proofs.Lists.Calm.{calm_before}
 use Rattle.sbp_world.proofs.Lists.Executes.{NamedRun, OpensBeside, opens_before, runs_named}

@@ -1,19 +1,11 @@
 -- The buffer that an initiator lays out for a command (NCITS 325-1998, page tables): its segments, where its page table has no fault; and its chunks begin in the window of its slot.
-use Rattle.std.proofs.Common.{arith, ◌≡◌, refl, ◌<◌, ◌≤◌, ◌+◌, ◌-◌, ◌*◌, ◌/◌, ◌^◌, ◌==◌, ◌||◌, nat_lt, ℕ, zero, suc, Bool, true, false, cond, List, [], ◌∷◌, ◌++◌, length, Option, Some, None}
+use Rattle.sbp_world.proofs.Words.Std.{arith, ◌≡◌, refl, ◌<◌, ◌≤◌, ◌+◌, ◌-◌, ◌*◌, ◌/◌, ◌^◌, ◌==◌, ◌||◌, nat_lt, ℕ, zero, suc, Bool, true, false, cond, List, [], ◌∷◌, ◌++◌, length, Option, Some, None, nat_tests}
+use Rattle.sbp_world.proofs.Words.Wire.{Cmd}
+use Rattle.sbp_world.proofs.Words.Initiator.{start, behind, has_table, PageFault, PastEnd, ZeroSegment, Chunk, Segment, AreSegments, chunks, pieces, segment_chunks, first_fault}
+use Rattle.sbp_world.proofs.Words.Laws.{Moved, begins_one, laid_out, placed}
 use Rattle.std.specs.Prelude.{sum}
 use Rattle.sbp_world.proofs.Hosts.BytePlaces.{total}
-use Rattle.std.proofs.lemmas.Bool.Decides.{nat_tests}
 use Rattle.bus_memory.specs.declared.window.Window.TheVariants as windows
-use Rattle.bus_memory.specs.Windows.{start}
-use Rattle.orb_list.specs.Layout.{behind, has_table}
-use Rattle.page_table.specs.declared.fault.PageFault.{PageFault}
-use Rattle.page_table.specs.declared.fault.PageFault.TheVariants.{PastEnd, ZeroSegment}
-use Rattle.page_table.specs.declared.segment.Chunk.{Chunk}
-use Rattle.page_table.specs.declared.segment.Segment.{Segment}
-use Rattle.page_table.specs.Buffer.{AreSegments, chunks, pieces, segment_chunks}
-use Rattle.page_table.specs.Elements.{first_fault}
-use Rattle.sbp_journal.specs.declared.event.Cmd.{Cmd}
-use Rattle.sbp_laws.specs.CarriedBytes.{Moved, begins_one, laid_out, placed}
 
 abbrev no_fault : Option PageFault
 no_fault = None

@@ -1,26 +1,12 @@
 -- What is said of the machine of each agent of the terms of the target, where each step of an agent keeps it: each note keeps it, but for one of a packet that is got, which is said apart.
-use Rattle.std.proofs.Common.{◌≡◌, refl, subst, ℕ, Bool, true, false, cond, List, Option, Some, None, Result, Ok, Err}
-use Rattle.std.specs.Prelude.{is_none, position}
-use Rattle.command_agent.specs.declared.step.PointRefusal.{PointRefusal}
-use Rattle.command_agent.specs.declared.step.Which.{Which}
-use Rattle.command_agent.specs.Machine.{Machine}
-use Rattle.command_agent.specs.Steps.{point_step}
-use Rattle.mgmt_agent.specs.declared.decision.ManagerStep.{ManagerStep}
-use Rattle.mgmt_agent.specs.declared.operation.Busy.{Busy}
+use Rattle.sbp_world.proofs.Words.Std.{◌≡◌, refl, subst, ℕ, Bool, true, false, cond, List, Option, Some, None, Result, Ok, Err, is_none, position}
+use Rattle.sbp_world.proofs.Words.Wire.{Access, Register, Start, agent_reset, agent_state, doorbell, management_agent, no_start, orb_pointer, register, rom_start, start_at, start_serves, unsolicited_enable, Moment, Terms, Note, FunctionWord}
+use Rattle.sbp_world.proofs.Words.Target.{PointRefusal, Which, Machine, point_step, ManagerStep, Busy, Table}
+use Rattle.sbp_world.proofs.Words.Initiator.{Ask, offset_at, pointer_at, Answer, Expired}
+use Rattle.sbp_world.proofs.Words.Laws.{sender_in, Agent, Decided, Purpose, Reply, Target, agent_at, enters_in, entered_by, for_agent, for_manager, for_nobody, is_serial, managed_by, manager_step, new_agent, over, pointed_by, points, purpose_of, register_got, replied, replied_to, request_got, rings, start_got, started_by, target_by, with_agent}
 use Rattle.mgmt_agent.specs.Machine as manager
-use Rattle.orb_layout.specs.declared.ask.Ask.{Ask}
-use Rattle.orb_layout.specs.Pointers.{offset_at, pointer_at}
-use Rattle.orb_layout.specs.Replies.{Answer, Expired}
-use Rattle.login_table.specs.Table.{Table}
-use Rattle.sbp_journal.specs.Addresses.{Access, Register, Start, agent_reset, agent_state, doorbell, management_agent, no_start, orb_pointer, register, rom_start, start_at, start_serves, unsolicited_enable}
-use Rattle.sbp_journal.specs.Run.{Moment}
-use Rattle.sbp_journal.specs.Wire.{Terms}
-use Rattle.sbp_journal.specs.declared.note.Note.{Note}
 use Rattle.sbp_journal.specs.declared.note.Note.TheVariants as notes
-use Rattle.sbp_journal.specs.declared.operation.FunctionWord.{FunctionWord}
 use Rattle.sbp_journal.specs.declared.operation.FunctionWord.TheVariants as functions
-use Rattle.sbp_laws.specs.Packets.{sender_in}
-use Rattle.sbp_laws.specs.Targets.{Agent, Decided, Purpose, Reply, Target, agent_at, enters_in, entered_by, for_agent, for_manager, for_nobody, is_serial, managed_by, manager_step, new_agent, over, pointed_by, points, purpose_of, register_got, replied, replied_to, request_got, rings, start_got, started_by, target_by, with_agent}
 use Rattle.sbp_world.proofs.Lists.AgentFolds.{AreKept, Every, cut_still, set_so, set_still, stand, stand_still}
 use Rattle.sbp_world.proofs.Lists.AgentNotes as agents
 use Rattle.sbp_world.proofs.Lists.AgentNotes.{IfApart, pick}

@@ -1,26 +1,18 @@
 -- A response that closed the transaction of a request is not got again, where its nodes injected no packets: each response of such nodes that is got answers the request that its label waits for, and
 -- a label that is free waits later for requests alone that are sent later.
-use Rattle.std.proofs.Common.{arith, ◌≡◌, ◌∙◌, refl, sym, ap, subst, inl, inr, ◌⊎◌, ◌≤◌, ◌==◌, ℕ, zero, suc, Bool, true, false, cond, List, [], ◌∷◌, ◌++◌, Option, Some, None}
-use Rattle.std.proofs.lemmas.Bool.Decides.{nat_tests}
-use Rattle.bus_transactions.specs.Judging.{AreJudged, JudgementLaw, facts_of, is_awaited, is_response, may_get, waits_for}
-use Rattle.bus_transactions.specs.Packets.{SerialsCount}
+use Rattle.sbp_world.proofs.Words.Std.{arith, ◌≡◌, ◌∙◌, refl, sym, ap, subst, inl, inr, ◌⊎◌, ◌≤◌, ◌==◌, ℕ, zero, suc, Bool, true, false, cond, List, [], ◌∷◌, ◌++◌, Option, Some, None, nat_tests}
+use Rattle.sbp_world.proofs.Words.Wire.{AreJudged, JudgementLaw, is_awaited, is_response, may_get, waits_for, SerialsCount, row_of, Moment, asked, said, Kind, Part, Sending, Transaction, between, part_of, request, response, Held, Terms, free, rests, terms, waits, Note}
+use Rattle.sbp_world.proofs.Words.Target.{Disk}
+use Rattle.sbp_world.proofs.Words.Laws.{answered_as, answered_at, answered_in, closed_by}
+use Rattle.sbp_world.proofs.Words.World.{ready_logins, WorldState, Stands, AreGotOnce, GotOnceLaw, IsCalmNode, NoneAgain}
+use Rattle.bus_transactions.specs.Judging.{facts_of}
 use Rattle.bus_transactions.proofs.JudgementLaws.{judged_always}
 use Rattle.bus_transactions.proofs.Reaches.{law_of}
-use Rattle.label_table.specs.Judging.{row_of}
-use Rattle.rbc_disk.specs.Disk.{Disk}
-use Rattle.sbp_journal.specs.Run.{Moment, asked, said}
-use Rattle.sbp_journal.specs.Transactions.{Kind, Part, Sending, Transaction, between, no_packet, part_of, request, response}
-use Rattle.sbp_journal.specs.Wire.{Held, Terms, free, rests, terms, waits}
-use Rattle.sbp_journal.specs.declared.note.Note.{Note}
+use Rattle.sbp_journal.specs.Transactions.{no_packet}
 use Rattle.sbp_journal.specs.declared.note.Note.TheVariants as notes
-use Rattle.sbp_laws.specs.Packets.{answered_as, answered_at, answered_in, closed_by}
-use Rattle.sbp_world.specs.Making.{ready_logins}
-use Rattle.sbp_world.specs.Worlds.{WorldState}
-use Rattle.sbp_world.specs.Wire.Wires.{Stands}
 use Rattle.sbp_world.proofs.Agents.Management.Still.{hist}
 use Rattle.sbp_world.proofs.Hosts.Remaining.{remains}
 use Rattle.sbp_world.proofs.Hosts.SentMoments.{sent_below, serials_from}
-use Rattle.sbp_world.specs.Lists.GotOnce.{AreGotOnce, GotOnceLaw, IsCalmNode, NoneAgain}
 use Rattle.sbp_world.proofs.Lists.Fair.{Told, told_before, told_everywhere}
 use Rattle.sbp_world.proofs.Lists.Courses.{EveryPlace, Keeps, at_between, at_lines}
 use Rattle.sbp_world.proofs.Lists.ManageTerms.{same_some}

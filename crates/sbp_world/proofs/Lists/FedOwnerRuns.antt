@@ -1,20 +1,10 @@
 -- In every run in which no initiator injected packets, or few logins were given, and in which lists were open as they should be before, the agents read of an initiator that injected none the page tables and the
 -- data of the ORB at the head of its own list alone.
-use Rattle.std.proofs.Common.{◌≡◌, sym, ap, subst, ◌<◌, ◌≤◌, ◌+◌, ℕ, Bool, true, false, List, ◌∷◌, ◌++◌, map, length, Option}
+use Rattle.sbp_world.proofs.Words.Std.{◌≡◌, sym, ap, subst, ◌<◌, ◌≤◌, ◌+◌, ℕ, Bool, true, false, List, ◌∷◌, ◌++◌, map, length, Option}
+use Rattle.sbp_world.proofs.Words.Wire.{Moment, asked, said}
+use Rattle.sbp_world.proofs.Words.Target.{Told}
+use Rattle.sbp_world.proofs.Words.World.{history_of, ready_logins, Run, after, beginning, MayAll, after_all, Scene, WorldState, begun, IsRun, more_deliveries, AreAlong, OpenListsLaw, IsCalm, OpenBefore, OpenLists, OpensLaw, AreOwnGots, AreOwnReads, OwnGotsLaw, OwnReadsLaw}
 use Rattle.sbp_world.proofs.Agents.Management.Still.{hist}
-use Rattle.rbc_disk.specs.Runs.{Told}
-use Rattle.sbp_journal.specs.Run.{Moment, asked, said}
-use Rattle.sbp_world.specs.Histories.{history_of}
-use Rattle.sbp_world.specs.Making.{ready_logins}
-use Rattle.sbp_world.specs.Runs.{Run, after, beginning}
-use Rattle.sbp_world.specs.Settling.{MayAll, after_all}
-use Rattle.sbp_world.specs.Worlds.{Scene, WorldState, begun}
-use Rattle.sbp_world.specs.Hosts.Runs.{IsRun, more_deliveries}
-use Rattle.sbp_world.specs.Lists.Along.{AreAlong}
-use Rattle.sbp_world.specs.Lists.Closes.{OpenListsLaw}
-use Rattle.sbp_world.specs.Lists.Needs.{IsCalm, OpenBefore, OpenLists}
-use Rattle.sbp_world.specs.Lists.Opens.{OpensLaw}
-use Rattle.sbp_world.specs.Lists.OwnReads.{AreOwnGots, AreOwnReads, OwnGotsLaw, OwnReadsLaw}
 use Rattle.sbp_world.proofs.Lists.Courses.{more_than_one}
 use Rattle.sbp_world.proofs.Lists.FedGots.{are_own_gots}
 use Rattle.sbp_world.proofs.Lists.FedOwners.{are_own_reads}

@@ -1,39 +1,17 @@
 -- At a place of a run, where lists are open as they should be, what an agent waits for, to read in a page table or a buffer of an initiator that injected no packets and has a list open, is the main transaction of the
 -- agent that has the list, in the slot of the first ORB that has not ended.
-use Rattle.std.proofs.Common.{arith, ◌≡◌, ◌∙◌, refl, sym, ap, subst, ◌<◌, ◌-◌, ℕ, suc, Bool, true, List, [], Option, Some, None}
-use Rattle.bus_memory.specs.Memory.{new_memory}
-use Rattle.bus_memory.specs.declared.window.Window.{Window}
+use Rattle.sbp_world.proofs.Words.Std.{arith, ◌≡◌, ◌∙◌, refl, sym, ap, subst, ◌<◌, ◌-◌, ℕ, suc, Bool, true, List, [], Option, Some, None}
+use Rattle.sbp_world.proofs.Words.Wire.{Access, Moment}
+use Rattle.sbp_world.proofs.Words.Target.{Knows, KnowsAhead, Progress, ReadsAhead, ahead_ask, main_ask, number_behind, Phase, ReadAhead, Which, Ahead, Main, Machine, aligned, Disk}
+use Rattle.sbp_world.proofs.Words.Initiator.{new_memory, Window, start_of, window_at, OrbPointer, At, Null}
+use Rattle.sbp_world.proofs.Words.Laws.{fifo_in, slot_at, Target, term_login, over, target_at, ends}
+use Rattle.sbp_world.proofs.Words.World.{holder, WorldState, IsAccessFor, AreAlong, GoesAlong, IsCalm, IsOpenAt, OpenLists, initiator_in, is_open_at, machine_at, AreOwnReads, IsOwnRead, ReadsData, data_slot, slot_in}
 use Rattle.bus_memory.specs.declared.window.Window.TheVariants as windows
-use Rattle.bus_memory.specs.Windows.{start as start_of, window_at}
 use Rattle.bus_memory.proofs.Found.{window_here}
-use Rattle.agent_laws.specs.Along.Along.{Knows, KnowsAhead, Progress, ReadsAhead}
-use Rattle.agent_laws.specs.Along.Requests.{ahead_ask, main_ask}
-use Rattle.agent_laws.specs.Along.Steps.{number_behind}
-use Rattle.command_agent.specs.declared.phase.Phase.{Phase}
 use Rattle.command_agent.specs.declared.phase.Phase.TheVariants as phases
-use Rattle.command_agent.specs.declared.phase.ReadAhead.{ReadAhead}
 use Rattle.command_agent.specs.declared.phase.ReadAhead.TheVariants as aheads
-use Rattle.command_agent.specs.declared.step.Which.{Which}
-use Rattle.command_agent.specs.declared.step.Which.TheVariants.{Ahead, Main}
-use Rattle.command_agent.specs.Machine.{Machine, aligned}
-use Rattle.orb_layout.specs.declared.pointer.OrbPointer.{OrbPointer}
-use Rattle.orb_layout.specs.declared.pointer.OrbPointer.TheVariants.{At, Null}
-use Rattle.rbc_disk.specs.Disk.{Disk}
-use Rattle.sbp_journal.specs.Addresses.{Access}
-use Rattle.sbp_journal.specs.Run.{Moment}
-use Rattle.sbp_laws.specs.Agents.{fifo_in}
-use Rattle.sbp_laws.specs.Lists.{slot_at}
-use Rattle.sbp_laws.specs.Targets.{Target, login_at as term_login, over, target_at}
-use Rattle.sbp_laws.specs.Terms.{ends}
-use Rattle.sbp_world.specs.Telling.{holder}
-use Rattle.sbp_world.specs.Worlds.{WorldState}
-use Rattle.sbp_world.specs.Agents.AskedRuns.{IsAccessFor}
 use Rattle.sbp_world.proofs.Agents.Management.Holding.{Holding}
 use Rattle.sbp_world.proofs.Agents.Management.Still.{hist}
-use Rattle.sbp_world.specs.Lists.Along.{AreAlong, GoesAlong}
-use Rattle.sbp_world.specs.Lists.Needs.{IsCalm, IsOpenAt, OpenLists, initiator_in, is_open_at, machine_at}
-use Rattle.sbp_world.specs.Lists.OwnReads.{AreOwnReads, IsOwnRead, ReadsData, data_slot}
-use Rattle.sbp_world.specs.Lists.SentReads.{slot_in}
 use Rattle.sbp_world.proofs.Lists.Bringing.{read_prepared}
 use Rattle.sbp_world.proofs.Lists.Brought.{list, main_number, number_of}
 use Rattle.sbp_world.proofs.Lists.ManageTerms.{same_some}

@@ -1,13 +1,10 @@
 -- The reads of a buffer's chunks, each where the one before ended (NCITS 325-1998, page tables): each that brings bytes begins where a chunk of the buffer begins.
-use Rattle.std.proofs.Common.{arith, ◌≡◌, ◌∙◌, refl, sym, ap, subst, ◌<◌, ◌≤◌, ◌+◌, ◌-◌, ◌==◌, ◌||◌, nat_lt, min, inl, inr, ◌⊎◌, ℕ, zero, suc, Bool, true, false, cond, List, [], ◌∷◌, ◌++◌, length, length-append, append-nil, append_assoc, Option, Some, None}
-use Rattle.std.specs.List.{filter, flat_map}
-use Rattle.std.proofs.lemmas.Bool.Decides.{nat_tests}
-use Rattle.command_agent.specs.Machine.{cut_to}
-use Rattle.page_table.specs.declared.segment.Segment.{Segment}
-use Rattle.page_table.specs.declared.segment.Chunk.{Chunk}
-use Rattle.page_table.specs.Buffer.{AreSegments, before, chunk_from, chunks, taken_from}
+use Rattle.sbp_world.proofs.Words.Std.{arith, ◌≡◌, ◌∙◌, refl, sym, ap, subst, ◌<◌, ◌≤◌, ◌+◌, ◌-◌, ◌==◌, ◌||◌, nat_lt, min, inl, inr, ◌⊎◌, ℕ, zero, suc, Bool, true, false, cond, List, [], ◌∷◌, ◌++◌, length, length-append, append_assoc, Option, Some, None, filter, flat_map, nat_tests}
+use Rattle.sbp_world.proofs.Words.Target.{cut_to}
+use Rattle.sbp_world.proofs.Words.Initiator.{Segment, Chunk, AreSegments, before, chunk_from, chunks, taken_from}
+use Rattle.sbp_world.proofs.Words.Laws.{Moved, begins_one, joined}
+use Rattle.std.proofs.Common.{append-nil}
 use Rattle.page_table.proofs.Chunks.{chunks_in_turn}
-use Rattle.sbp_laws.specs.CarriedBytes.{Moved, begins_one, joined}
 use Rattle.sbp_world.proofs.Common.{no_bytes}
 
 -- the bytes that were moved, joined

@@ -1,42 +1,16 @@
 -- At a place of a run, what a packet brings that the target gets is for the agent of the place as it is for that of the terms: the buffer and the data of its ORB.
-use Rattle.std.proofs.Common.{◌≡◌, ◌∙◌, refl, sym, ap, subst, ◌<◌, ◌*◌, ◌-◌, ℕ, length, Bool, true, List, [], ◌∷◌, ◌++◌, Option, Some, Ok}
-use Rattle.async_packet.specs.Labels.{LabelParts}
-use Rattle.async_packet.specs.Packet.{Packet, header_in}
+use Rattle.sbp_world.proofs.Words.Std.{◌≡◌, ◌∙◌, refl, sym, ap, subst, ◌<◌, ◌*◌, ◌-◌, ℕ, length, Bool, true, List, [], ◌∷◌, ◌++◌, Option, Some, Ok}
+use Rattle.sbp_world.proofs.Words.Wire.{LabelParts, Packet, header_in, judging_step, of_response, Sent, found_sent, Moment, asked, said, Sending, Terms, opened, terms, Event}
+use Rattle.sbp_world.proofs.Words.Target.{ReadAhead, Main, reads_table, Machine, cut_to, limit_of, Disk, which_in, desk_at, answer_in}
+use Rattle.sbp_world.proofs.Words.Initiator.{CommandOrb, command_orb, Answer, payload_of, Segment, chunk_from}
+use Rattle.sbp_world.proofs.Words.Laws.{Moved, receiver_in, Target, agent_at, for_agent, is_serial, over, purpose_of, target_at, EachMoment}
+use Rattle.sbp_world.proofs.Words.World.{WorldState, without_notes, AreAskedAt, Alike, has_list, moves_data, IsCalm, initiator_in, machine_at, AskedAsGot, IsBrought}
 use Rattle.command_agent.specs.declared.phase.Phase.TheVariants as phases
-use Rattle.command_agent.specs.declared.phase.ReadAhead.{ReadAhead}
-use Rattle.command_agent.specs.declared.step.Which.TheVariants.{Main}
-use Rattle.command_agent.specs.Checks.{reads_table}
-use Rattle.command_agent.specs.Machine.{Machine, cut_to, limit_of}
-use Rattle.label_table.specs.Layer.{judging_step, of_response}
-use Rattle.orb_layout.specs.declared.command.CommandOrb.{CommandOrb}
-use Rattle.orb_layout.specs.CommandOrbs.{command_orb}
-use Rattle.orb_layout.specs.Replies.{Answer, payload_of}
-use Rattle.packet_store.specs.declared.sent.Sent.{Sent}
-use Rattle.packet_store.specs.Kept.{found_sent}
-use Rattle.page_table.specs.declared.segment.Segment.{Segment}
-use Rattle.page_table.specs.Buffer.{chunk_from}
-use Rattle.rbc_disk.specs.Disk.{Disk}
-use Rattle.sbp_journal.specs.Run.{Moment, asked, said}
-use Rattle.sbp_journal.specs.Transactions.{Sending}
-use Rattle.sbp_journal.specs.Wire.{Terms, opened, terms}
-use Rattle.sbp_journal.specs.declared.event.Event.{Event}
 use Rattle.sbp_journal.specs.declared.note.Note.TheVariants as notes
-use Rattle.sbp_laws.specs.CarriedBytes.{Moved}
 use Rattle.sbp_laws.specs.Packets as laws
-use Rattle.sbp_laws.specs.Packets.{receiver_in}
-use Rattle.sbp_laws.specs.Targets.{Target, agent_at, for_agent, is_serial, over, purpose_of, target_at}
-use Rattle.sbp_laws.specs.Turns.{EachMoment}
 use Rattle.sbp_target.specs.declared.purpose.Purpose.TheVariants as purposes
-use Rattle.sbp_target.specs.Desks.{which_in}
-use Rattle.sbp_target.specs.Nodes.{desk_at}
-use Rattle.sbp_target.specs.Receiving.{answer_in}
-use Rattle.sbp_world.specs.Worlds.{WorldState, without_notes}
-use Rattle.sbp_world.specs.Agents.AskedRuns.{AreAskedAt}
-use Rattle.sbp_world.specs.Agents.Alike.{Alike, has_list, moves_data}
 use Rattle.sbp_world.proofs.Agents.Management.Holding.{Holding}
 use Rattle.sbp_world.proofs.Agents.Management.Still.{hist}
-use Rattle.sbp_world.specs.Lists.Needs.{IsCalm, initiator_in, machine_at}
-use Rattle.sbp_world.specs.Lists.OrbReads.{AskedAsGot, IsBrought}
 use Rattle.sbp_world.proofs.Lists.FedReads.{Fed, IsTurned, feeding, hears, kept, turns_to}
 use Rattle.sbp_world.proofs.Lists.FedFolds.{over_still}
 use Rattle.sbp_world.proofs.Lists.FedSteps.{Feeding, Hears}

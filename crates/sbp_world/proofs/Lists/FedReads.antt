@@ -1,21 +1,12 @@
 -- At each moment of a history, before which the agents of the terms of the target waited for what they asked for as packets were got, each agent has the buffer and the data that its
 -- reads brought since its turn came to its ORB, behind the response that brought the ORB.
-use Rattle.std.proofs.Common.{◌≡◌, ◌∙◌, refl, sym, ap, subst, ℕ, true, List, [], ◌∷◌, ◌++◌, Some}
-use Rattle.sbp_world.specs.Agents.AskedRuns.{AreAskedAt}
-use Rattle.command_agent.specs.declared.step.Which.TheVariants.{Main}
-use Rattle.command_agent.specs.Machine.{Machine}
-use Rattle.orb_layout.specs.declared.command.CommandOrb.{CommandOrb}
-use Rattle.rbc_disk.specs.Disk.{Disk}
-use Rattle.sbp_journal.specs.Run.{Moment, asked, said}
-use Rattle.sbp_journal.specs.Wire.{terms}
-use Rattle.sbp_journal.specs.declared.note.Note.{Note}
+use Rattle.sbp_world.proofs.Words.Std.{◌≡◌, ◌∙◌, refl, sym, ap, subst, ℕ, true, List, [], ◌∷◌, ◌++◌, Some}
+use Rattle.sbp_world.proofs.Words.Wire.{Moment, asked, said, terms, Note}
+use Rattle.sbp_world.proofs.Words.Target.{Main, Machine, Disk}
+use Rattle.sbp_world.proofs.Words.Initiator.{CommandOrb}
+use Rattle.sbp_world.proofs.Words.Laws.{Moved, answer_in, answered_at, packet_at, receiver_in, Agent, agent_at, for_agent, is_serial, over, purpose_of, target_at, EachMoment}
+use Rattle.sbp_world.proofs.Words.World.{AreAskedAt, main_read, own_reads, AskedAsGot, IsBrought}
 use Rattle.sbp_journal.specs.declared.note.Note.TheVariants as notes
-use Rattle.sbp_laws.specs.CarriedBytes.{Moved}
-use Rattle.sbp_laws.specs.Packets.{answer_in, answered_at, packet_at, receiver_in}
-use Rattle.sbp_laws.specs.Targets.{Agent, agent_at, for_agent, is_serial, over, purpose_of, target_at}
-use Rattle.sbp_laws.specs.Turns.{EachMoment}
-use Rattle.sbp_world.specs.Lists.FedRuns.{main_read, own_reads}
-use Rattle.sbp_world.specs.Lists.OrbReads.{AskedAsGot, IsBrought}
 use Rattle.sbp_world.proofs.Lists.FedFolds.{AreSo, AreStill, IsKept}
 use Rattle.sbp_world.proofs.Lists.FedGoing as going
 use Rattle.sbp_world.proofs.Lists.FedGoing.{IsNoGot, same_reads}

@@ -1,50 +1,16 @@
 -- A run that the target tells of is on the buffer and with the data that the reads of its agent brought, since its turn came to the ORB behind the response that brought this.
-use Rattle.std.proofs.Common.{arith, ◌≡◌, ◌∙◌, refl, sym, ap, subst, ℕ, ◌+◌, ◌<◌, ◌==◌, ◌&&◌, is_some, not, sum, ◌≤◌, length, Bool, true, false, cond, List, [], ◌∷◌, ◌++◌, Option, Some, None, IsSomeAnd}
-use Rattle.std.specs.List.{filter, flat_map}
-use Rattle.std.proofs.lemmas.Bool.Decides.{nat_tests}
-use Rattle.std.proofs.lemmas.Nat.{pow_pos}
-use Rattle.std.proofs.lemmas.Option.{same_Some}
+use Rattle.sbp_world.proofs.Words.Std.{arith, ◌≡◌, ◌∙◌, refl, sym, ap, subst, ℕ, ◌+◌, ◌<◌, ◌==◌, ◌&&◌, is_some, not, sum, ◌≤◌, length, Bool, true, false, cond, List, [], ◌∷◌, ◌++◌, Option, Some, None, IsSomeAnd, filter, flat_map, nat_tests, pow_pos, same_Some}
+use Rattle.sbp_world.proofs.Words.Wire.{check_of, buffer_of, Moment, said, Cmd, Note}
+use Rattle.sbp_world.proofs.Words.Target.{AgentStep, Which, Ahead, Main, reads_table, Machine, is_ahead, limit_of, ahead_step, quiet, reply_step, unread_buffer, Disk, Told, PlainDisk, Outcome, desk_at, plain_in, answer_in, heard_by}
+use Rattle.sbp_world.proofs.Words.Initiator.{start_of, CommandOrb, Answer, payload_of, data_size, has_table, Chunk, Segment, AreSegments, bytes_of, chunks, single, elements_of, first_fault}
+use Rattle.sbp_world.proofs.Words.Laws.{Moved, address_of, begins_one, buffer_in, joined, laid_out, read_at, Request, plan_of, request_at, slot_at}
+use Rattle.sbp_world.proofs.Words.World.{holder, Scene, WorldState, AreBeside, FedAt, RunIsFed, IsBufferOf, IsOrbOf, IsBrought}
 use Rattle.bus_memory.specs.declared.window.Window.TheVariants as windows
-use Rattle.bus_memory.specs.Windows.{start as start_of}
-use Rattle.command_agent.specs.declared.step.AgentStep.{AgentStep}
-use Rattle.command_agent.specs.declared.step.Which.{Which}
-use Rattle.command_agent.specs.declared.step.Which.TheVariants.{Ahead, Main}
-use Rattle.command_agent.specs.Checks.{reads_table}
-use Rattle.command_agent.specs.Machine.{Machine, is_ahead, limit_of}
-use Rattle.command_agent.specs.Steps.{ahead_step, quiet, reply_step, unread_buffer}
-use Rattle.orb_layout.specs.declared.command.CommandOrb.{CommandOrb}
-use Rattle.orb_layout.specs.Replies.{Answer, payload_of}
-use Rattle.orb_list.specs.Layout.{data_size, has_table}
-use Rattle.page_table.specs.declared.segment.Chunk.{Chunk}
-use Rattle.page_table.specs.declared.segment.Segment.{Segment}
-use Rattle.page_table.specs.Buffer.{AreSegments, bytes_of, chunks, single}
-use Rattle.page_table.specs.Elements.{elements_of, first_fault}
-use Rattle.rbc_disk.specs.Disk.{Disk}
-use Rattle.rbc_disk.specs.Runs.{Told}
-use Rattle.rbc_disk.specs.Units.{PlainDisk}
-use Rattle.rbc_disk.specs.declared.command.Outcome.{Outcome}
-use Rattle.sbp_bus.specs.Words.{check_of}
-use Rattle.sbp_journal.specs.Buffers.{buffer_of}
-use Rattle.sbp_journal.specs.Run.{Moment, said}
-use Rattle.sbp_journal.specs.declared.event.Cmd.{Cmd}
-use Rattle.sbp_journal.specs.declared.note.Note.{Note}
 use Rattle.sbp_journal.specs.declared.note.Note.TheVariants as notes
-use Rattle.sbp_laws.specs.CarriedBytes.{Moved, address_of, begins_one, buffer_in, joined, laid_out, read_at}
-use Rattle.sbp_laws.specs.Terms.{Request, plan_of, request_at}
-use Rattle.sbp_target.specs.Nodes.{desk_at}
-use Rattle.sbp_target.specs.Replies.{plain_in}
-use Rattle.sbp_target.specs.Receiving.{answer_in}
-use Rattle.sbp_world.specs.Telling.{holder}
-use Rattle.sbp_world.specs.Worlds.{Scene, WorldState}
 use Rattle.sbp_world.proofs.Agents.Management.Still.{hist}
 use Rattle.sbp_world.proofs.Agents.UnitsRun.{ahead_none}
-use Rattle.agent_laws.specs.Along.Steps.{heard_by}
-use Rattle.sbp_laws.specs.Lists.{slot_at}
-use Rattle.sbp_world.specs.Lists.FedRuns.{AreBeside, FedAt, RunIsFed}
 use Rattle.sbp_world.proofs.Lists.FedWindows.{beside_joined, beside_read}
 use Rattle.sbp_world.proofs.Lists.Slots.{IsFilled}
-use Rattle.sbp_world.specs.Lists.Lists.{IsBufferOf, IsOrbOf}
-use Rattle.sbp_world.specs.Lists.OrbReads.{IsBrought}
 use Rattle.sbp_world.proofs.Lists.Brought.{has_a_table}
 use Rattle.sbp_world.proofs.Lists.FedLaid.{begins_none, laid_sound}
 use Rattle.sbp_world.proofs.Lists.FedPieces.{AllFit, InTurn, all_bytes, all_fit, fit_joined}

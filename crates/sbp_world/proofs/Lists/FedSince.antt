@@ -1,16 +1,13 @@
 -- What the target got of an initiator since a response is what the agent of a place read, and others that begin elsewhere: where each packet that it got since brought the one or
 -- the other, and the response was not got again.
-use Rattle.std.proofs.Common.{arith, ◌≡◌, ◌∙◌, sym, ap, subst, inl, inr, ◌==◌, ℕ, true, false, cond, append-nil, List, [], ◌∷◌, ◌++◌}
-use Rattle.std.proofs.lemmas.Bool.Decides.{nat_tests}
-use Rattle.rbc_disk.specs.Disk.{Disk}
-use Rattle.sbp_journal.specs.Run.{Moment, asked, said}
-use Rattle.sbp_journal.specs.Wire.{terms}
-use Rattle.sbp_journal.specs.declared.note.Note.{Note}
+use Rattle.sbp_world.proofs.Words.Std.{arith, ◌≡◌, ◌∙◌, sym, ap, subst, inl, inr, ◌==◌, ℕ, true, false, cond, List, [], ◌∷◌, ◌++◌, nat_tests}
+use Rattle.sbp_world.proofs.Words.Wire.{Moment, asked, said, terms, Note}
+use Rattle.sbp_world.proofs.Words.Target.{Disk}
+use Rattle.sbp_world.proofs.Words.Laws.{Moved, read_by, reads_since, answered_at}
+use Rattle.sbp_world.proofs.Words.World.{AllElsewhere, AreBeside, AreOwnOrOthers, BesideLaw, IsOwnOrOther, main_read, no_more, other_read, own_read, own_reads, NoneAgain}
+use Rattle.std.proofs.Common.{append-nil}
 use Rattle.sbp_journal.specs.declared.note.Note.TheVariants as notes
-use Rattle.sbp_laws.specs.CarriedBytes.{Moved, read_by, reads_since}
-use Rattle.sbp_laws.specs.Packets.{answered_at}
-use Rattle.sbp_world.specs.Lists.FedRuns.{AllElsewhere, AreBeside, AreOthers, AreOwnOrOthers, BesideLaw, IsOwnOrOther, main_read, no_more, other_read, own_read, own_reads}
-use Rattle.sbp_world.specs.Lists.GotOnce.{NoneAgain}
+use Rattle.sbp_world.specs.Lists.FedRuns.{AreOthers}
 
 -- ---- one behind the other
 both : (slot : ℕ) (all own more : List Moved) → AreBeside slot all own → AreBeside slot (all ++ more) (own ++ more)

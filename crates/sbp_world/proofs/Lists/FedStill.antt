@@ -1,22 +1,12 @@
 -- What an agent has of its ORB, by the response that brought it, and of the reads since it turned to it: what is known of that response goes on with it.
-use Rattle.std.proofs.Common.{◌≡◌, ◌∙◌, refl, sym, ap, subst, ℕ, true, false, List, [], ◌∷◌, ◌++◌}
-use Rattle.command_agent.specs.declared.phase.Phase.{Phase}
+use Rattle.sbp_world.proofs.Words.Std.{◌≡◌, ◌∙◌, refl, sym, ap, subst, ℕ, true, false, List, [], ◌∷◌, ◌++◌}
+use Rattle.sbp_world.proofs.Words.Wire.{Moment, asked, said, Note}
+use Rattle.sbp_world.proofs.Words.Target.{Phase, ReadAhead, Machine, awaits_run, Disk}
+use Rattle.sbp_world.proofs.Words.Initiator.{CommandOrb, command_orb, Answer, Segment}
+use Rattle.sbp_world.proofs.Words.Laws.{Moved}
+use Rattle.sbp_world.proofs.Words.World.{has_list, moves_data, AllAhead, HasOrbAhead, main_read, own_reads, AllAwaited, IsAwaited}
 use Rattle.command_agent.specs.declared.phase.Phase.TheVariants as phases
-use Rattle.command_agent.specs.declared.phase.ReadAhead.{ReadAhead}
-use Rattle.command_agent.specs.Machine.{Machine, awaits_run}
-use Rattle.orb_layout.specs.declared.command.CommandOrb.{CommandOrb}
-use Rattle.orb_layout.specs.CommandOrbs.{command_orb}
-use Rattle.orb_layout.specs.Replies.{Answer}
-use Rattle.page_table.specs.declared.segment.Segment.{Segment}
-use Rattle.rbc_disk.specs.Disk.{Disk}
-use Rattle.sbp_journal.specs.Run.{Moment, asked, said}
-use Rattle.sbp_journal.specs.declared.note.Note.{Note}
 use Rattle.sbp_journal.specs.declared.note.Note.TheVariants as notes
-use Rattle.sbp_laws.specs.CarriedBytes.{Moved}
-use Rattle.sbp_world.specs.Agents.Alike.{has_list, moves_data}
-use Rattle.sbp_world.specs.Lists.AheadOrbs.{AllAhead, HasOrbAhead}
-use Rattle.sbp_world.specs.Lists.FedRuns.{main_read, own_reads}
-use Rattle.sbp_world.specs.Lists.OwnSince.{AllAwaited, IsAwaited}
 use Rattle.sbp_world.proofs.Lists.FedGoing.{IsNoGot, same_reads}
 use Rattle.sbp_world.proofs.Lists.FedSteps.{Feeding, Hears, IsFed, Tabling, none_awaits}
 use Rattle.sbp_world.proofs.Lists.OrbReading.{ahead_more}

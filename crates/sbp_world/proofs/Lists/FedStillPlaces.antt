@@ -1,41 +1,21 @@
 -- At a place of a run the answer to the main transaction of an agent that has a list open of an initiator that injected no packets brings it the ORB that was prepared last in its slot, or more of its buffer and data since the response
 -- that brought this ORB.
-use Rattle.std.proofs.Common.{◌≡◌, ◌∙◌, refl, sym, ap, subst, ◌<◌, ℕ, Bool, true, List, [], ◌∷◌, ◌++◌, Option, Some}
-use Rattle.async_packet.specs.Labels.{LabelParts}
-use Rattle.async_packet.specs.Packet.{Packet, header_in}
-use Rattle.command_agent.specs.declared.step.Which.TheVariants.{Main}
-use Rattle.label_table.specs.Layer.{judging_step, of_response}
-use Rattle.orb_layout.specs.declared.command.CommandOrb.{CommandOrb}
-use Rattle.packet_store.specs.declared.sent.Sent.{Sent}
-use Rattle.packet_store.specs.Kept.{found_sent}
-use Rattle.rbc_disk.specs.Disk.{Disk}
-use Rattle.sbp_journal.specs.Run.{Moment, asked, said}
-use Rattle.sbp_journal.specs.Transactions.{Sending}
-use Rattle.sbp_journal.specs.Wire.{Terms, opened, terms}
-use Rattle.sbp_journal.specs.declared.event.Event.{Event}
+use Rattle.sbp_world.proofs.Words.Std.{◌≡◌, ◌∙◌, refl, sym, ap, subst, ◌<◌, ℕ, Bool, true, List, [], ◌∷◌, ◌++◌, Option, Some}
+use Rattle.sbp_world.proofs.Words.Wire.{LabelParts, Packet, header_in, judging_step, of_response, Sent, found_sent, Moment, asked, said, Sending, Terms, opened, terms, Event}
+use Rattle.sbp_world.proofs.Words.Target.{Main, Disk, which_in, desk_at, answer_in}
+use Rattle.sbp_world.proofs.Words.Initiator.{CommandOrb}
+use Rattle.sbp_world.proofs.Words.Laws.{receiver_in, Target, agent_at, for_agent, is_serial, over, purpose_of, target_at, EachMoment, prepared_in}
+use Rattle.sbp_world.proofs.Words.World.{WorldState, without_notes, AreAskedAt, Alike, has_list, IsCalm, initiator_in, machine_at, AskedAsGot, AreLed}
 use Rattle.sbp_journal.specs.declared.note.Note.TheVariants as notes
 use Rattle.sbp_laws.specs.Packets as laws
-use Rattle.sbp_laws.specs.Packets.{receiver_in}
-use Rattle.sbp_laws.specs.Targets.{Target, agent_at, for_agent, is_serial, over, purpose_of, target_at}
-use Rattle.sbp_laws.specs.Turns.{EachMoment}
 use Rattle.sbp_target.specs.declared.purpose.Purpose.TheVariants as purposes
-use Rattle.sbp_target.specs.Desks.{which_in}
-use Rattle.sbp_target.specs.Nodes.{desk_at}
-use Rattle.sbp_target.specs.Receiving.{answer_in}
-use Rattle.sbp_world.specs.Worlds.{WorldState, without_notes}
-use Rattle.sbp_world.specs.Agents.AskedRuns.{AreAskedAt}
-use Rattle.sbp_world.specs.Agents.Alike.{Alike, has_list}
 use Rattle.sbp_world.proofs.Agents.Management.Holding.{Holding}
 use Rattle.sbp_world.proofs.Agents.Management.Still.{hist}
-use Rattle.sbp_world.specs.Lists.Needs.{IsCalm, initiator_in, machine_at}
-use Rattle.sbp_world.specs.Lists.OrbReads.{AskedAsGot}
 use Rattle.sbp_world.proofs.Lists.FedSteps.{Hears}
 use Rattle.sbp_world.proofs.Lists.Calm.{asked_calm, calm_asked}
 use Rattle.sbp_world.proofs.Lists.Heard.{purpose_so, tells}
 use Rattle.sbp_world.proofs.Lists.OrbLines.{answered_same}
 use Rattle.sbp_world.proofs.Lists.OrbWaits.{over_twice}
-use Rattle.sbp_world.specs.Lists.OrbNames.{AreLed}
-use Rattle.sbp_laws.specs.Lists.{prepared_in}
 use Rattle.sbp_world.proofs.Lists.FedGoing as going
 use Rattle.sbp_world.proofs.Lists.FedPlaces.{alike_hears}
 use Rattle.sbp_world.proofs.Lists.FedStill.{Awaits, ReadBy, Spares, TurnedBy, hears_so, read_by_got, read_on, turned_by_got, turned_on, turns_by}

@@ -1,38 +1,18 @@
 -- What is known of the response that brought an ORB which an agent has: it is the one prepared last in its slot still; so it is as a turn begins, and of what a packet brings in it.
-use Rattle.std.proofs.Common.{arith, ◌≡◌, ◌∙◌, refl, sym, ap, subst, ◌<◌, ◌≤◌, ℕ, suc, nat_lt, is_some, Bool, true, false, length, length-append, List, [], ◌∷◌, ◌++◌, Option, Some, None}
-use Rattle.std.proofs.lemmas.Bool.Decides.{nat_tests}
-use Rattle.command_agent.specs.declared.phase.Phase.{Phase}
+use Rattle.sbp_world.proofs.Words.Std.{arith, ◌≡◌, ◌∙◌, refl, sym, ap, subst, ◌<◌, ◌≤◌, ℕ, suc, nat_lt, is_some, Bool, true, false, length, length-append, List, [], ◌∷◌, ◌++◌, Option, Some, None, nat_tests}
+use Rattle.sbp_world.proofs.Words.Wire.{Moment, said, Sending, terms}
+use Rattle.sbp_world.proofs.Words.Target.{Phase, Main, Machine, aligned, is_sent, Disk, desk_at}
+use Rattle.sbp_world.proofs.Words.Initiator.{CommandOrb, At}
+use Rattle.sbp_world.proofs.Words.Laws.{Moved, injectors, named_orb, prepared_in, receiver_in, Target, agent_at, over, target_at, EachMoment}
+use Rattle.sbp_world.proofs.Words.World.{WorldState, has_list, moves_data, serial_of, IsOf, AllAhead, IsCalm, initiator_in, is_open_at, machine_at, IsJustBrought, IsStillBrought, IsAwaited, AskedAsGot, IsBrought}
 use Rattle.command_agent.specs.declared.phase.Phase.TheVariants as phases
 use Rattle.command_agent.specs.declared.phase.ReadAhead.TheVariants as aheads
-use Rattle.command_agent.specs.declared.step.Which.TheVariants.{Main}
-use Rattle.command_agent.specs.Machine.{Machine, aligned, is_sent}
-use Rattle.orb_layout.specs.declared.command.CommandOrb.{CommandOrb}
-use Rattle.orb_layout.specs.declared.pointer.OrbPointer.TheVariants.{At}
-use Rattle.rbc_disk.specs.Disk.{Disk}
-use Rattle.sbp_journal.specs.Run.{Moment, said}
-use Rattle.sbp_journal.specs.Transactions.{Sending}
-use Rattle.sbp_journal.specs.Wire.{terms}
 use Rattle.sbp_journal.specs.declared.note.Note.TheVariants as notes
-use Rattle.sbp_laws.specs.CarriedBytes.{Moved}
-use Rattle.sbp_laws.specs.Lawful.{injectors}
-use Rattle.sbp_laws.specs.Lists.{orb as named_orb, prepared_in}
-use Rattle.sbp_laws.specs.Packets.{receiver_in}
-use Rattle.sbp_laws.specs.Targets.{Target, agent_at, over, target_at}
-use Rattle.sbp_laws.specs.Turns.{EachMoment}
-use Rattle.sbp_target.specs.Nodes.{desk_at}
 use Rattle.sbp_target.proofs.Histories.Calling.{not_eight}
 use Rattle.sbp_target.proofs.Histories.Following.{Fits}
-use Rattle.sbp_world.specs.Worlds.{WorldState}
-use Rattle.sbp_world.specs.Agents.Alike.{has_list, moves_data}
-use Rattle.sbp_world.specs.Agents.AskedRuns.{serial_of}
-use Rattle.sbp_world.specs.Agents.Crews.{IsOf}
 use Rattle.sbp_world.proofs.Agents.Purposes.{g}
 use Rattle.sbp_world.proofs.Agents.Management.Holding.{Holding}
 use Rattle.sbp_world.proofs.Agents.Management.Still.{hist}
-use Rattle.sbp_world.specs.Lists.AheadOrbs.{AllAhead}
-use Rattle.sbp_world.specs.Lists.Needs.{IsCalm, initiator_in, is_open_at, machine_at}
-use Rattle.sbp_world.specs.Lists.OrbNames.{IsJustBrought, IsStillBrought}
-use Rattle.sbp_world.specs.Lists.OwnSince.{IsAwaited}
 use Rattle.sbp_world.proofs.Lists.FedFolds as folds
 use Rattle.sbp_world.proofs.Lists.FedFolds.{over_still}
 use Rattle.sbp_world.proofs.Lists.FedReads as reads
@@ -45,7 +25,6 @@ use Rattle.sbp_world.proofs.Lists.OrbNotes.{GotBrings}
 use Rattle.sbp_world.proofs.Lists.OrbSteps.{holds_read}
 use Rattle.sbp_world.proofs.Lists.Sites.{Site, waiting}
 use Rattle.sbp_world.proofs.Lists.StillReads.{IsHad, named_over, still_had}
-use Rattle.sbp_world.specs.Lists.OrbReads.{AskedAsGot, IsBrought}
 use Rattle.sbp_world.proofs.Common.{untrue}
 
 -- ---- what is known of the response that brought an ORB

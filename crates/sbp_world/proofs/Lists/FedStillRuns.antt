@@ -1,13 +1,9 @@
 -- At each place of a run in which no initiator injected packets, or few logins were given, each agent that has a list open of an initiator that injected none has the buffer and the data that its reads brought since it turned to its ORB, behind the
 -- response that brought the ORB, which is the one prepared last in its slot.
-use Rattle.std.proofs.Common.{ℕ, ◌<◌, List, sym, ◌∙◌}
-use Rattle.rbc_disk.specs.Disk.{Disk}
-use Rattle.sbp_journal.specs.Run.{Moment}
-use Rattle.sbp_world.specs.Making.{ready_logins}
-use Rattle.sbp_world.specs.Runs.{Run, beginning}
-use Rattle.sbp_world.specs.Worlds.{WorldState}
-use Rattle.sbp_world.specs.Lists.Closes.{OpenListsLaw}
-use Rattle.sbp_world.specs.Lists.FewLogins.{IsTameOrFew}
+use Rattle.sbp_world.proofs.Words.Std.{ℕ, ◌<◌, List, sym, ◌∙◌}
+use Rattle.sbp_world.proofs.Words.Wire.{Moment}
+use Rattle.sbp_world.proofs.Words.Target.{Disk}
+use Rattle.sbp_world.proofs.Words.World.{ready_logins, Run, beginning, WorldState, OpenListsLaw, IsTameOrFew}
 use Rattle.sbp_world.proofs.Lists.Courses.{EveryPlace, Keeps, at_between, at_lines}
 use Rattle.sbp_world.proofs.Lists.FedStillReads.{AreFedStill}
 use Rattle.sbp_world.proofs.Lists.FedStillTurns.{turn_fed}

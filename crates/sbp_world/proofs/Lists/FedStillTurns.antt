@@ -1,47 +1,25 @@
 -- A turn of a world in which no initiator injected packets, or few logins were given, leaves each agent of an initiator that injected none with the buffer and the data that its reads brought since it turned to its ORB, behind the response that brought
 -- the ORB, which is the one prepared last in its slot still.
-use Rattle.std.proofs.Common.{◌≡◌, ◌∙◌, refl, sym, ap, subst, ◌<◌, ℕ, Bool, true, false, List, [], ◌∷◌, ◌++◌, length, Option, Some, None}
-use Rattle.agent_laws.specs.Along.Steps.{number_behind}
+use Rattle.sbp_world.proofs.Words.Std.{◌≡◌, ◌∙◌, refl, sym, ap, subst, ◌<◌, ℕ, Bool, true, false, List, [], ◌∷◌, ◌++◌, length, Option, Some, None}
+use Rattle.sbp_world.proofs.Words.Wire.{Moment, asked, said, terms, Action, Event, end_note}
+use Rattle.sbp_world.proofs.Words.Target.{number_behind, Machine, aligned, Disk, Told, KnowsAhead}
+use Rattle.sbp_world.proofs.Words.Initiator.{CommandOrb, At}
+use Rattle.sbp_world.proofs.Words.Laws.{Moved, injectors, cmd_of, prepared_in, agent_at, over, target_at, ends, EachMoment, event_of}
+use Rattle.sbp_world.proofs.Words.World.{MayHappen, acted, happens, MayNext, delivered_next, settled_from, IsLine, Scene, WorldState, begun, initiator_at, without_notes, GoesAlong, IsCalm, IsOpenAt, initiator_in, is_open_at, machine_at, AreLed, LedAsGot, IsTameOrFew, more_deliveries}
 use Rattle.command_agent.specs.declared.phase.ReadAhead.TheVariants as aheads
-use Rattle.command_agent.specs.Machine.{Machine, aligned}
-use Rattle.orb_layout.specs.declared.command.CommandOrb.{CommandOrb}
-use Rattle.orb_layout.specs.declared.pointer.OrbPointer.TheVariants.{At}
-use Rattle.rbc_disk.specs.Disk.{Disk}
-use Rattle.rbc_disk.specs.Runs.{Told}
-use Rattle.sbp_journal.specs.Run.{Moment, asked, said}
-use Rattle.sbp_journal.specs.Wire.{terms}
-use Rattle.sbp_journal.specs.declared.event.Action.{Action}
-use Rattle.sbp_journal.specs.declared.event.Event.{Event}
 use Rattle.sbp_journal.specs.declared.event.Event.TheVariants as events
 use Rattle.sbp_journal.specs.declared.note.Note.TheVariants as notes
-use Rattle.sbp_laws.specs.CarriedBytes.{Moved}
-use Rattle.sbp_laws.specs.Lawful.{injectors}
-use Rattle.sbp_laws.specs.Lists.{cmd_of, prepared_in}
-use Rattle.sbp_laws.specs.Targets.{agent_at, over, target_at}
-use Rattle.sbp_laws.specs.Terms.{ends}
-use Rattle.sbp_laws.specs.Turns.{EachMoment, event_of}
-use Rattle.sbp_world.specs.Lines.{MayHappen, acted, happens}
-use Rattle.sbp_world.specs.Settling.{MayNext, delivered_next, settled_from}
-use Rattle.sbp_world.specs.Wire.Lines.{IsLine}
-use Rattle.sbp_world.specs.Worlds.{Scene, WorldState, begun, initiator_at, without_notes}
 use Rattle.sbp_world.proofs.Agents.Management.Holding.{Holding}
 use Rattle.sbp_world.proofs.Agents.Management.Still.{hist}
 use Rattle.sbp_world.proofs.Hosts.Carries.{IsNoAct}
 use Rattle.sbp_world.proofs.Hosts.StepLaws.{step_law}
-use Rattle.agent_laws.specs.Along.Along.{KnowsAhead}
-use Rattle.sbp_world.specs.Lists.Along.{GoesAlong}
-use Rattle.sbp_world.specs.Lists.Needs.{IsCalm, IsOpenAt, initiator_in, is_open_at, machine_at}
 use Rattle.sbp_world.proofs.Lists.Brought.{list}
 use Rattle.sbp_world.proofs.Lists.KeptPhases.{kept_sent}
-use Rattle.sbp_world.specs.Lists.OrbNames.{AreLed, LedAsGot}
-use Rattle.sbp_world.specs.Lists.FewLogins.{IsTameOrFew}
 use Rattle.sbp_world.proofs.Lists.Calm.{calm_asked}
 use Rattle.sbp_world.proofs.Lists.Adds.{Stays}
 use Rattle.sbp_world.proofs.Lists.Courses.{Goes, by_delivery, by_end, by_line, by_start}
 use Rattle.sbp_world.proofs.Lists.FedGoing as going
 use Rattle.sbp_world.proofs.Lists.FedGoing.{IsNoGot, fed_so}
-use Rattle.sbp_bus.specs.Packets.{end_note}
-use Rattle.sbp_world.specs.Hosts.Runs.{more_deliveries}
 use Rattle.sbp_world.proofs.Lists.Judging.{goes_next, grown as grown_by}
 use Rattle.sbp_world.proofs.Lists.LiveRuns.{goes_size, goes_tame_or_few}
 use Rattle.sbp_world.proofs.Lists.FedSteps.{IsFed}

@@ -1,21 +1,14 @@
 -- Where the chunks of a command's buffer begin (NCITS 325-1998, page tables): in the window of the buffer of its slot. So reads that begin elsewhere bring none of its page table and
 -- none of its data.
-use Rattle.std.proofs.Common.{arith, ◌≡◌, ◌∙◌, refl, ap, subst, ◌<◌, ◌+◌, ◌-◌, ◌==◌, ◌||◌, nat_lt, min, ℕ, zero, suc, Bool, true, false, cond, List, [], ◌∷◌, ◌++◌, length, take, drop, Option, Some, None, IfSome}
-use Rattle.std.specs.List.{filter, flat_map}
-use Rattle.std.proofs.lemmas.Bool.Decides.{nat_tests}
-use Rattle.bus_memory.specs.Memory.{new_memory}
+use Rattle.sbp_world.proofs.Words.Std.{arith, ◌≡◌, ◌∙◌, refl, ap, subst, ◌<◌, ◌+◌, ◌-◌, ◌==◌, ◌||◌, nat_lt, min, ℕ, zero, suc, Bool, true, false, cond, List, [], ◌∷◌, ◌++◌, length, take, drop, Option, Some, None, IfSome, filter, flat_map, nat_tests}
+use Rattle.sbp_world.proofs.Words.Wire.{Cmd}
+use Rattle.sbp_world.proofs.Words.Initiator.{new_memory, start, window_at, Chunk, Segment, AreSegments, addresses, before, buffer_addresses, chunk, chunk_from, chunks, taken_from}
+use Rattle.sbp_world.proofs.Words.Laws.{Moved, begins_one, joined, laid_out, read_at}
+use Rattle.sbp_world.proofs.Words.World.{read_access, AreBeside, IsElsewhere, no_more, other_read, own_read}
 use Rattle.bus_memory.specs.declared.window.Window.TheVariants as windows
-use Rattle.bus_memory.specs.Windows.{start, window_at}
 use Rattle.bus_memory.proofs.Found.{window_here}
-use Rattle.page_table.specs.declared.segment.Chunk.{Chunk}
-use Rattle.page_table.specs.declared.segment.Segment.{Segment}
-use Rattle.page_table.specs.Buffer.{AreSegments, addresses, before, buffer_addresses, chunk, chunk_from, chunks, taken_from}
 use Rattle.page_table.proofs.Chunks.{chunks_in_turn}
 use Rattle.page_table.proofs.Places.{chunk_in_place}
-use Rattle.sbp_journal.specs.declared.event.Cmd.{Cmd}
-use Rattle.sbp_laws.specs.CarriedBytes.{Moved, begins_one, joined, laid_out, read_at}
-use Rattle.sbp_world.specs.Agents.AskedRuns.{read_access}
-use Rattle.sbp_world.specs.Lists.FedRuns.{AreBeside, IsElsewhere, no_more, other_read, own_read}
 use Rattle.sbp_world.proofs.Lists.Slots.{IsFilled, data_window}
 
 -- a chunk has bytes

@@ -1,49 +1,21 @@
 -- A turn of the target's management as a reply takes its operation on: the one packet that it sends is that of the operation; and where it is a block that names a
 -- management ORB, it is the status block with which this operation ends, for the node that it is of.
-use Rattle.std.proofs.Common.{◌≡◌, ◌∙◌, ◌⊎◌, inl, inr, refl, sym, ap, subst, ◌<◌, ◌+◌, ◌^◌, ◌&&◌, not, nat_eq, nat_le, ℕ, suc, Bool, true, false, cond, List, [], length, Option, Some, None, Ok}
-use Rattle.std.proofs.Common.{arith}
-use Rattle.std.proofs.lemmas.Bool.Decides.{nat_tests}
-use Rattle.std.proofs.lemmas.Option.{same_Some}
-use Rattle.async_packet.specs.Fields.{largest}
+use Rattle.sbp_world.proofs.Words.Std.{◌≡◌, ◌∙◌, ◌⊎◌, inl, inr, refl, sym, ap, subst, ◌<◌, ◌+◌, ◌^◌, ◌&&◌, not, nat_eq, nat_le, ℕ, suc, Bool, true, false, cond, List, [], length, Option, Some, None, Ok, arith, nat_tests, same_Some}
+use Rattle.sbp_world.proofs.Words.Wire.{largest, AreBytes, FitsRequest, Asked, Body, block_read, block_write, quadlet_read, quadlet_write, Layer, GenerationsState, node_of, topology_at, Access, OutboxState, Moment, Terms, terms}
+use Rattle.sbp_world.proofs.Words.Target.{Operation, status_block, Disk, Purpose, manager_body, NodeState, scene, request_packet}
+use Rattle.sbp_world.proofs.Words.Initiator.{start_of, window_at, Ask, ManagementOrb, StatusBlock, read_block}
+use Rattle.sbp_world.proofs.Words.Laws.{access_in_bytes, Target, is_nothing, is_serial, wants, EachMoment}
+use Rattle.sbp_world.proofs.Words.World.{handed_out, posted, sent, sent_all, sent_to, told_all, WorldState, Office, by_sides, IsClearFifo, access_for, IsPlaceWrite, is_its_packet, IsBufferWrite, is_responding}
 use Rattle.bus_memory.specs.declared.window.Window.TheVariants as windows
-use Rattle.bus_memory.specs.Windows.{start as start_of, window_at}
-use Rattle.bus_transactions.specs.Fitting.{AreBytes, FitsRequest}
-use Rattle.label_table.specs.declared.judgement.Asked.{Asked}
-use Rattle.label_table.specs.Bodies.{Body, block_read, block_write, quadlet_read, quadlet_write}
-use Rattle.label_table.specs.Layer.{Layer}
-use Rattle.mgmt_agent.specs.declared.operation.Operation.{Operation}
 use Rattle.mgmt_agent.specs.declared.operation.Phase.{Phase}
 use Rattle.mgmt_agent.specs.declared.operation.Phase.TheVariants as phases
 use Rattle.mgmt_agent.specs.Machine as management
-use Rattle.mgmt_agent.specs.Machine.{status_block}
-use Rattle.orb_layout.specs.declared.ask.Ask.{Ask}
 use Rattle.orb_layout.specs.declared.ask.Ask.TheVariants as asks
-use Rattle.orb_layout.specs.declared.management.ManagementOrb.{ManagementOrb}
-use Rattle.orb_layout.specs.declared.status.StatusBlock.{StatusBlock}
-use Rattle.orb_layout.specs.StatusBlocks.{read_block}
-use Rattle.rbc_disk.specs.Disk.{Disk}
-use Rattle.sbp_bus.specs.Generations.{GenerationsState, node_of, topology_at}
-use Rattle.sbp_journal.specs.Addresses.{Access}
-use Rattle.sbp_journal.specs.Outgoings.{OutboxState}
-use Rattle.sbp_journal.specs.Run.{Moment}
-use Rattle.sbp_journal.specs.Wire.{Terms, terms}
-use Rattle.sbp_laws.specs.Packets.{access_in_bytes}
-use Rattle.sbp_laws.specs.Targets.{Target, is_nothing, is_serial, wants}
-use Rattle.sbp_laws.specs.Turns.{EachMoment}
-use Rattle.sbp_target.specs.declared.purpose.Purpose.{Purpose}
 use Rattle.sbp_target.specs.declared.purpose.Purpose.TheVariants as purposes
-use Rattle.sbp_target.specs.Management.{manager_body}
-use Rattle.sbp_target.specs.Nodes.{NodeState, scene}
-use Rattle.sbp_world.specs.Handing.{handed_out}
-use Rattle.sbp_world.specs.Sending.{posted, sent, sent_all, sent_to}
-use Rattle.sbp_world.specs.Telling.{told_all}
-use Rattle.sbp_world.specs.Worlds.{WorldState}
 use Rattle.sbp_world.proofs.FitTarget.Agents.{FitsAsk}
 use Rattle.sbp_world.proofs.FitTarget.Nodes.{IfBody, manager_body_fits}
 use Rattle.sbp_world.proofs.Wire.Alike.{told_alike}
-use Rattle.sbp_target.specs.Histories.Layers.{request as request_packet}
 use Rattle.sbp_target.proofs.Histories.Seats.{Lives}
-use Rattle.sbp_world.specs.Agents.Management.Offices.{Office, by_sides}
 use Rattle.sbp_world.proofs.Agents.AskedBytes.{reads_back}
 use Rattle.sbp_world.proofs.Agents.Management.Asking.{Leaves, MayLeave, Turned, leaves, silent}
 use Rattle.sbp_world.proofs.Agents.Management.Idle.{IsIdle}
@@ -53,11 +25,6 @@ use Rattle.sbp_world.proofs.Agents.Management.Requests.{IsRequestFor, asked_labe
 use Rattle.sbp_world.proofs.Agents.Management.Still.{hist}
 use Rattle.sbp_world.proofs.Agents.Management.Told.{all_sides, office_in, term_in}
 use Rattle.sbp_world.proofs.Agents.Management.Turning.{asks_id}
-use Rattle.sbp_world.specs.Lists.Buffers.{IsClearFifo}
-use Rattle.sbp_world.specs.Lists.Contents.{access_for}
-use Rattle.sbp_world.specs.Lists.FifoWrites.{IsPlaceWrite}
-use Rattle.sbp_world.specs.Lists.ManagedFor.{is_its_packet}
-use Rattle.sbp_world.specs.Lists.Responding.{IsBufferWrite, is_responding}
 use Rattle.sbp_world.proofs.Lists.ContentPhases.{AskOf, sits}
 use Rattle.sbp_world.proofs.Lists.ContentTurns.{body_access}
 use Rattle.sbp_world.proofs.Lists.FifoLines.{IsWatched, WatchedSo, WriteSo}

@@ -1,52 +1,20 @@
 -- A reply to the target's management is delivered: the blocks that it writes to the FIFOs of an initiator, in the name of a place of management, are of its operation.
-use Rattle.std.proofs.Common.{arith, ◌≡◌, ◌∙◌, refl, sym, ap, subst, ℕ, suc, ◌^◌, ◌<◌, is_some, Bool, true, List, [], ◌∷◌, Option, Some, Ok}
-use Rattle.std.proofs.lemmas.Option.{same_Some}
-use Rattle.async_packet.specs.Labels.{LabelParts}
-use Rattle.async_packet.specs.Packet.{Packet, header_in}
-use Rattle.async_packet.specs.Reading.{reading}
-use Rattle.bus_transactions.specs.Fitting.{AreBytes}
-use Rattle.bus_transactions.specs.Judging.{AreJudged}
-use Rattle.bus_transactions.specs.Wire.{as_sending}
-use Rattle.label_table.specs.Layer.{Layer, judging_step, of_response}
-use Rattle.label_table.specs.Requests.{reply_kind}
-use Rattle.login_table.specs.Table.{Table}
-use Rattle.mgmt_agent.specs.declared.decision.ManagerStep.{ManagerStep}
-use Rattle.mgmt_agent.specs.declared.operation.Operation.{Operation}
+use Rattle.sbp_world.proofs.Words.Std.{arith, ◌≡◌, ◌∙◌, refl, sym, ap, subst, ℕ, suc, ◌^◌, ◌<◌, is_some, Bool, true, List, [], ◌∷◌, Option, Some, Ok, same_Some}
+use Rattle.sbp_world.proofs.Words.Wire.{LabelParts, Packet, header_in, reading, AreBytes, AreJudged, as_sending, Layer, judging_step, of_response, reply_kind, Sent, found_sent, GenerationsState, node_of, topology_at, judged_note, Moment, said, Sending, Terms, terms}
+use Rattle.sbp_world.proofs.Words.Target.{Table, ManagerStep, Operation, Disk, Purpose, Under, NodeState, scene, answer_in, Whole, TransactionLaw}
+use Rattle.sbp_world.proofs.Words.Laws.{Target, got_by, is_serial, over, laws_replied, target_at}
+use Rattle.sbp_world.proofs.Words.World.{marked, FitsManager, handed_out, told_all, IsOfWire, Stands, WorldState, with_note, with_target, Office, at_rest, office_of, replied, stepped, IsManagementAt, IsClearFifo}
 use Rattle.mgmt_agent.specs.Machine as management
-use Rattle.packet_store.specs.declared.sent.Sent.{Sent}
-use Rattle.packet_store.specs.Kept.{found_sent}
-use Rattle.rbc_disk.specs.Disk.{Disk}
-use Rattle.sbp_bus.specs.Generations.{GenerationsState, node_of, topology_at}
-use Rattle.sbp_bus.specs.Packets.{judged_note}
-use Rattle.sbp_journal.specs.Run.{Moment, said}
-use Rattle.sbp_journal.specs.Transactions.{Sending}
-use Rattle.sbp_journal.specs.Wire.{Terms, terms}
 use Rattle.sbp_journal.specs.declared.cause.Judged.TheVariants as judgements
 use Rattle.sbp_journal.specs.declared.note.Note.TheVariants as notes
 use Rattle.sbp_laws.specs.Packets as laws
-use Rattle.sbp_laws.specs.Targets.{Target, got_by, is_serial, over, replied as laws_replied, target_at}
-use Rattle.sbp_target.specs.declared.purpose.Purpose.{Purpose}
 use Rattle.sbp_target.specs.declared.purpose.Purpose.TheVariants as purposes
-use Rattle.sbp_target.specs.declared.purpose.Sent.{Sent as Under}
-use Rattle.sbp_target.specs.Nodes.{NodeState, scene}
-use Rattle.sbp_target.specs.Receiving.{answer_in}
-use Rattle.sbp_target.specs.Replies.{Whole}
-use Rattle.sbp_world.specs.Delivering.{marked}
-use Rattle.sbp_world.specs.FitTarget.{FitsManager}
-use Rattle.sbp_world.specs.Handing.{handed_out}
-use Rattle.sbp_world.specs.Telling.{told_all}
-use Rattle.sbp_world.specs.Wire.History.{IsOfWire}
-use Rattle.sbp_world.specs.Wire.Wires.{Stands}
-use Rattle.sbp_world.specs.Worlds.{WorldState, with_note, with_target}
 use Rattle.sbp_world.proofs.FitTarget.Agents.{BytesIn, FitsAsk}
 use Rattle.sbp_world.proofs.FitTarget.Manager.{managed_fits}
-use Rattle.sbp_target.specs.Histories.Transactions.{TransactionLaw}
 use Rattle.sbp_target.proofs.Histories.Calling.{Good, peer_of}
 use Rattle.sbp_target.proofs.Histories.Primitives.{closing_known}
 use Rattle.sbp_target.proofs.Histories.Rested.{some_that}
 use Rattle.sbp_target.proofs.Histories.Seats.{Lives}
-use Rattle.sbp_world.specs.Agents.Management.Offices.{Office, at_rest, office_of, replied, stepped}
-use Rattle.sbp_world.specs.Agents.Management.Terms.{IsManagementAt}
 use Rattle.sbp_world.proofs.Agents.Management.Asking.{Turned}
 use Rattle.sbp_world.proofs.Agents.Management.Delivering.{answer_is, answers_own}
 use Rattle.sbp_world.proofs.Agents.Management.Firsts.{got_here, own_idle, own_reply}
@@ -57,7 +25,6 @@ use Rattle.sbp_world.proofs.Agents.Management.Managed.{IsReady}
 use Rattle.sbp_world.proofs.Agents.Management.Offices.{over_keeps}
 use Rattle.sbp_world.proofs.Agents.Management.Still.{Clock, gets_clock, hist}
 use Rattle.sbp_world.proofs.Agents.Management.Told.{office_in, term_in}
-use Rattle.sbp_world.specs.Lists.Buffers.{IsClearFifo}
 use Rattle.sbp_world.proofs.Lists.FifoManages.{F, IsOwn, managing_so}
 use Rattle.sbp_world.proofs.Lists.FifoReplies.{IsFifoFrom, fifo_from, reply_unread}
 use Rattle.sbp_world.proofs.Lists.ManageReplies.{reply_goes}

@@ -1,36 +1,17 @@
 -- At each place of a run before which lists were open as they should be: what the target wrote to the FIFOs of an initiator that injected no packets, in the name of a place of
 -- management, is of its operation; and so is what it wrote into the response buffers of it, where no login for its node has its FIFO there. Each turn keeps it, together with
 -- that the address of the operation's ORB has 48 bits.
-use Rattle.std.proofs.Common.{◌≡◌, ◌∙◌, sym, ap, subst, ◌<◌, ◌≤◌, ℕ, zero, suc, Bool, false, List, [], ◌∷◌, ◌++◌, map, length, Option, Some, None}
-use Rattle.rbc_disk.specs.Disk.{Disk}
-use Rattle.rbc_disk.specs.Runs.{Told}
-use Rattle.sbp_journal.specs.Run.{Moment, asked, said}
-use Rattle.sbp_journal.specs.declared.event.Event.{Event}
-use Rattle.sbp_bus.specs.Packets.{end_note}
-use Rattle.sbp_journal.specs.declared.note.Note.{Note}
+use Rattle.sbp_world.proofs.Words.Std.{◌≡◌, ◌∙◌, sym, ap, subst, ◌<◌, ◌≤◌, ℕ, zero, suc, Bool, false, List, [], ◌∷◌, ◌++◌, map, length, Option, Some, None}
+use Rattle.sbp_world.proofs.Words.Wire.{Moment, asked, said, Event, end_note, Note}
+use Rattle.sbp_world.proofs.Words.Target.{Disk, Told, login_at}
+use Rattle.sbp_world.proofs.Words.Initiator.{window_at}
+use Rattle.sbp_world.proofs.Words.Laws.{injectors, EachMoment}
+use Rattle.sbp_world.proofs.Words.World.{history_of, moments_behind, new_world, ready_logins, Run, after, beginning, happens, MayAll, MayNext, after_all, delivered_at, delivered_next, lowest, Scene, WorldState, begun, DeliversMore, IsRun, more_deliveries, Always, AreBuffersClear, AreLoginsClear, FifoWritesLaw, PlaceSo, IsCalm, OpenBefore, OpenBetween, AreOpened, OpensLaw, BufferSo}
 use Rattle.sbp_journal.specs.declared.note.Note.TheVariants as notes
-use Rattle.sbp_target.specs.Nodes.{login_at}
-use Rattle.bus_memory.specs.Windows.{window_at}
-use Rattle.sbp_laws.specs.Lawful.{injectors}
-use Rattle.sbp_laws.specs.Turns.{EachMoment}
-use Rattle.sbp_world.specs.Histories.{history_of, moments_behind}
-use Rattle.sbp_world.specs.Making.{new_world, ready_logins}
-use Rattle.sbp_world.specs.Runs.{Run, after, beginning}
-use Rattle.sbp_world.specs.Lines.{happens}
-use Rattle.sbp_world.specs.Settling.{MayAll, MayNext, after_all, delivered_at, delivered_next, lowest}
 use Rattle.sbp_world.specs.Settling as settling
-use Rattle.sbp_world.specs.Worlds.{Scene, WorldState, begun}
-use Rattle.sbp_world.specs.Agents.Management.Terms.{DeliversMore}
 use Rattle.sbp_world.proofs.Agents.Management.Holding.{Holding, good_of}
 use Rattle.sbp_world.proofs.Agents.Management.Still.{hist}
-use Rattle.sbp_world.specs.Hosts.Runs.{IsRun, more_deliveries}
 use Rattle.sbp_world.proofs.Hosts.Runs.{count_after, count_between}
-use Rattle.sbp_world.specs.Lists.Closes.{Always}
-use Rattle.sbp_world.specs.Lists.Buffers.{AreBuffersClear, AreLoginsClear}
-use Rattle.sbp_world.specs.Lists.FifoWrites.{FifoWritesLaw, PlaceSo}
-use Rattle.sbp_world.specs.Lists.Needs.{IsCalm, OpenBefore, OpenBetween}
-use Rattle.sbp_world.specs.Lists.Opens.{AreOpened, OpensLaw}
-use Rattle.sbp_world.specs.Lists.Responding.{BufferSo}
 use Rattle.sbp_world.proofs.Lists.Calm.{asked_calm, calm_before}
 use Rattle.sbp_world.proofs.Lists.Courses.{EveryPlace}
 use Rattle.sbp_world.proofs.Lists.Executes.{asked_of}

@@ -1,33 +1,19 @@
 -- What a reply brings the target's management to write: a response, which reads as no status block, or a status block; nothing in another phase. And what is told leaves an operation that goes on.
-use Rattle.std.proofs.Common.{◌≡◌, ◌∙◌, refl, sym, ap, subst, ◌≤◌, ◌*◌, ◌+◌, ◌^◌, ◌==◌, ℕ, Bool, true, false, cond, List, [], ◌∷◌, length, Option, Some, None, Result, Ok, Err}
-use Rattle.std.specs.Prelude.{is_none, position}
-use Rattle.login_table.specs.Table.{Table}
-use Rattle.mgmt_agent.specs.declared.decision.ManagerStep.{ManagerStep}
+use Rattle.sbp_world.proofs.Words.Std.{◌≡◌, ◌∙◌, refl, sym, ap, subst, ◌≤◌, ◌*◌, ◌+◌, ◌^◌, ◌==◌, ℕ, Bool, true, false, cond, List, [], ◌∷◌, length, Option, Some, None, Result, Ok, Err, is_none, position, quad}
+use Rattle.sbp_world.proofs.Words.Wire.{function_word, login_if, Note, FunctionWord, Side}
+use Rattle.sbp_world.proofs.Words.Target.{Table, ManagerStep, Operation, Status, decide, reads_eui, beside, cut_response, decide_step, decided_as, eui_step, high_eui_at, high_got, in_phase, low_eui_at, low_got, orb_got, reply_in, reply_to, response_written, status_block, status_step, status_written}
+use Rattle.sbp_world.proofs.Words.Initiator.{Ask, FailCause, ManagementOrb, management_orb, Answer, payload_of, write_failure}
+use Rattle.sbp_world.proofs.Words.Laws.{Decided}
+use Rattle.sbp_world.proofs.Words.World.{Office, by_managed, by_note, by_side, by_sides, placed, placed_by, is_responding}
 use Rattle.mgmt_agent.specs.declared.decision.Outcome.{Outcome}
-use Rattle.mgmt_agent.specs.declared.operation.Operation.{Operation}
 use Rattle.mgmt_agent.specs.declared.operation.Phase.{Phase}
 use Rattle.mgmt_agent.specs.declared.operation.Phase.TheVariants as phases
-use Rattle.mgmt_agent.specs.declared.status.Status.{Status}
 use Rattle.mgmt_agent.specs.declared.status.Status.TheVariants as statuses
-use Rattle.mgmt_agent.specs.Decisions.{decide, reads_eui}
-use Rattle.mgmt_agent.specs.Machine.{Machine, beside, cut_response, decide_step, decided_as, eui_step, high_eui_at, high_got, in_phase, low_eui_at, low_got, orb_got, quiet, reply_in, reply_step, reply_to, response_written, status_block, status_step, status_written}
-use Rattle.orb_layout.specs.declared.ask.Ask.{Ask}
+use Rattle.mgmt_agent.specs.Machine.{Machine, quiet, reply_step}
 use Rattle.orb_layout.specs.declared.ask.Ask.TheVariants as asks
-use Rattle.orb_layout.specs.declared.ask.FailCause.{FailCause}
-use Rattle.orb_layout.specs.declared.management.ManagementOrb.{ManagementOrb}
-use Rattle.orb_layout.specs.ManagementOrbs.{management_orb}
-use Rattle.orb_layout.specs.Replies.{Answer, payload_of, write_failure}
-use Rattle.sbp_base.specs.Quadlets.{quad}
-use Rattle.sbp_bus.specs.Words.{function_word, login_if}
-use Rattle.sbp_journal.specs.declared.note.Note.{Note}
 use Rattle.sbp_journal.specs.declared.note.Note.TheVariants as notes
-use Rattle.sbp_journal.specs.declared.operation.FunctionWord.{FunctionWord}
 use Rattle.sbp_journal.specs.declared.operation.FunctionWord.TheVariants as functions
-use Rattle.sbp_journal.specs.declared.side.Side.{Side}
 use Rattle.sbp_journal.specs.declared.side.Side.TheVariants as sides
-use Rattle.sbp_laws.specs.Targets.{Decided}
-use Rattle.sbp_world.specs.Agents.Management.Offices.{Office, by_managed, by_note, by_side, by_sides, placed, placed_by}
-use Rattle.sbp_world.specs.Lists.Responding.{is_responding}
 use Rattle.sbp_world.proofs.Lists.StatusManaged.{Small, Unread, decide_small, response_unread}
 use Rattle.sbp_world.proofs.Lists.StatusSteps.{none_wrote, read_wrote}
 

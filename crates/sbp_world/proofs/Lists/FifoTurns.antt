@@ -1,68 +1,24 @@
 -- A delivery to the target, and a time-out of its own: each block that it writes then to a FIFO of an initiator that injected no packets, in the name of a place of management, is
 -- of its operation. An agent that makes a step writes none, for the ORB that ended is in a slot.
-use Rattle.std.proofs.Common.{◌≡◌, ◌∙◌, refl, sym, ap, subst, ◌<◌, ◌+◌, ℕ, suc, nat_lt, Bool, true, false, cond, List, [], ◌∷◌, ◌++◌, map, length, Option, Some, None, Ok}
-use Rattle.std.proofs.lemmas.Bool.{false≢true}
-use Rattle.async_packet.specs.Labels.{LabelParts}
-use Rattle.async_packet.specs.Packet.{Packet, header_in}
+use Rattle.sbp_world.proofs.Words.Std.{◌≡◌, ◌∙◌, refl, sym, ap, subst, ◌<◌, ◌+◌, ℕ, suc, nat_lt, Bool, true, false, cond, List, [], ◌∷◌, ◌++◌, map, length, Option, Some, None, Ok, false≢true}
+use Rattle.sbp_world.proofs.Words.Wire.{LabelParts, Packet, header_in, Layer, judging_step, of_request, of_response, Sent, GenerationsState, node_of, judged_note, holder_at, list_in, Judged, Note, Outgoing, OutboxState, Moment, said}
+use Rattle.sbp_world.proofs.Words.Target.{AgentStep, Which, Ahead, Main, lost_step, point_step, reply_step, Login, Table, is_live, place_at, ManagerStep, Operation, Disk, Held, Told, Purpose, which_in, ask_manager, decided_by, manage, managed_in, managed_with, tell_failed, with_manager, Scene, desk_at, login_at, scene, answer_in, received, timed_out, Whole, plain_in, is_barred, demand_of}
+use Rattle.sbp_world.proofs.Words.Initiator.{slot_of, start_of, window_at, Ask, OrbPointer, FailCause, Expired, last_in, TicketParts}
+use Rattle.sbp_world.proofs.Words.Laws.{EachMoment}
+use Rattle.sbp_world.proofs.Words.World.{whole_of, handed_out, under_way, posted, leaving, sent_all, sent_to, holder, ticket_of, told_all, WorldState, initiator_at, has_list, AreOthers, IsFor, machine_at}
 use Rattle.bus_memory.specs.declared.window.Window.TheVariants as windows
-use Rattle.bus_memory.specs.Windows.{slot_of, start as start_of, window_at}
-use Rattle.command_agent.specs.declared.step.AgentStep.{AgentStep}
-use Rattle.command_agent.specs.declared.step.Which.{Which}
-use Rattle.command_agent.specs.declared.step.Which.TheVariants.{Ahead, Main}
-use Rattle.command_agent.specs.Steps.{lost_step, point_step, reply_step}
-use Rattle.label_table.specs.Layer.{Layer, judging_step, of_request, of_response}
-use Rattle.login_table.specs.declared.login.Login.{Login}
-use Rattle.login_table.specs.Table.{Table, is_live, place_at}
-use Rattle.mgmt_agent.specs.declared.decision.ManagerStep.{ManagerStep}
-use Rattle.mgmt_agent.specs.declared.operation.Operation.{Operation}
 use Rattle.mgmt_agent.specs.declared.operation.Phase.{Phase}
 use Rattle.mgmt_agent.specs.declared.operation.Phase.TheVariants as operating
 use Rattle.mgmt_agent.specs.Machine as management
-use Rattle.orb_layout.specs.declared.ask.Ask.{Ask}
 use Rattle.orb_layout.specs.declared.ask.Ask.TheVariants as asks
-use Rattle.orb_layout.specs.declared.pointer.OrbPointer.{OrbPointer}
-use Rattle.orb_layout.specs.declared.ask.FailCause.{FailCause}
 use Rattle.orb_layout.specs.declared.ask.FailCause.TheVariants as causes
-use Rattle.orb_layout.specs.Replies.{Expired}
-use Rattle.orb_list.specs.Lists.{last_in}
-use Rattle.orb_list.specs.Tickets.{TicketParts}
-use Rattle.packet_store.specs.declared.sent.Sent.{Sent}
-use Rattle.rbc_disk.specs.Disk.{Disk}
-use Rattle.rbc_disk.specs.Held.{Held}
-use Rattle.rbc_disk.specs.Runs.{Told}
-use Rattle.sbp_bus.specs.Generations.{GenerationsState, node_of}
-use Rattle.sbp_bus.specs.Packets.{judged_note}
-use Rattle.sbp_bus.specs.Places.{holder_at}
-use Rattle.sbp_bus.specs.Telling.{list_in}
-use Rattle.sbp_journal.specs.declared.cause.Judged.{Judged}
-use Rattle.sbp_journal.specs.declared.note.Note.{Note}
 use Rattle.sbp_journal.specs.declared.note.Note.TheVariants as notes
-use Rattle.sbp_journal.specs.declared.outbox.Outgoing.{Outgoing}
-use Rattle.sbp_journal.specs.Outgoings.{OutboxState}
-use Rattle.sbp_journal.specs.Run.{Moment, said}
-use Rattle.sbp_laws.specs.Turns.{EachMoment}
-use Rattle.sbp_target.specs.declared.purpose.Purpose.{Purpose}
 use Rattle.sbp_target.specs.declared.purpose.Purpose.TheVariants as purposes
-use Rattle.sbp_target.specs.Desks.{which_in}
-use Rattle.sbp_target.specs.Management.{ask_manager, decided_by, manage, managed_in, managed_with, tell_failed, with_manager}
-use Rattle.sbp_target.specs.Nodes.{Scene, desk_at, login_at, scene}
-use Rattle.sbp_target.specs.Receiving.{answer_in, received, timed_out}
-use Rattle.sbp_target.specs.Replies.{Whole, plain_in}
-use Rattle.sbp_target.specs.Serving.{is_barred}
-use Rattle.sbp_world.specs.Delivering.{whole_of}
-use Rattle.sbp_world.specs.Handing.{handed_out}
-use Rattle.sbp_world.specs.Sending.{asked as under_way, posted, sent as leaving, sent_all, sent_to}
-use Rattle.sbp_world.specs.Telling.{holder, ticket_of, told_all}
-use Rattle.sbp_world.specs.Worlds.{WorldState, initiator_at}
 use Rattle.sbp_world.proofs.Wire.Alike.{all_alike, told_alike}
 use Rattle.target_base.specs.declared.address.Access.TheVariants as accesses
 use Rattle.target_base.specs.declared.address.Demand.TheVariants as demands
-use Rattle.target_base.specs.Addresses.{demand_of}
 use Rattle.sbp_target.proofs.Histories.Pass.{Leaves, Said, decides}
-use Rattle.sbp_world.specs.Agents.Alike.{has_list}
 use Rattle.sbp_world.proofs.Agents.Management.Still.{hist}
-use Rattle.sbp_world.specs.Hosts.Handing.{AreOthers}
-use Rattle.sbp_world.specs.Lists.Needs.{IsFor, machine_at}
 use Rattle.sbp_world.proofs.Lists.Adds.{all_stay}
 use Rattle.sbp_world.proofs.Lists.FifoLines.{IsAside, IsWatched, WriteSo, all_aside, is_plain, plain_on, target_hands}
 use Rattle.sbp_world.proofs.Lists.FifoManages.{F}

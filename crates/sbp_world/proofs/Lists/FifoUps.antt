@@ -1,46 +1,21 @@
 -- Whose place an agent has that acts: where the login is live, and packets to its node are an initiator's, it is a place of that initiator. And the address of an operation's ORB
 -- has 48 bits, for it was read off the bytes of a packet.
-use Rattle.std.proofs.Common.{arith, ◌≡◌, ◌∙◌, ◌⊎◌, inl, inr, sym, ap, subst, ◌<◌, ◌+◌, ◌^◌, ℕ, suc, true, false, List, length, Some}
-use Rattle.std.proofs.lemmas.Option.{same_Some}
-use Rattle.async_packet.specs.Packet.{Packet}
+use Rattle.sbp_world.proofs.Words.Std.{arith, ◌≡◌, ◌∙◌, ◌⊎◌, inl, inr, sym, ap, subst, ◌<◌, ◌+◌, ◌^◌, ℕ, suc, true, false, List, length, Some, same_Some}
+use Rattle.sbp_world.proofs.Words.Wire.{Packet, Finding, judging_step, Sent, found_sent, Holder, node_of, topology_at, or_nobody, Moment, Note, Terms, terms}
+use Rattle.sbp_world.proofs.Words.Target.{Login, is_live, Operation, Disk, Purpose, NodeState, login_at, is_barred, Access, demand_of}
+use Rattle.sbp_world.proofs.Words.World.{holder, Stands, WorldState, has_list, AreHeldAt, GoesOn, IsAsked, OperationsStart, machine_at, AreOpened}
 use Rattle.bus_transactions.proofs.FitJudged.{bytes_of, spelled}
 use Rattle.bus_transactions.proofs.Reaches.{goes_on}
-use Rattle.label_table.specs.Layer.{Finding, judging_step}
-use Rattle.login_table.specs.declared.login.Login.{Login}
-use Rattle.login_table.specs.Table.{is_live}
-use Rattle.mgmt_agent.specs.declared.operation.Operation.{Operation}
 use Rattle.mgmt_agent.specs.Machine.{Machine}
-use Rattle.packet_store.specs.declared.sent.Sent.{Sent}
-use Rattle.packet_store.specs.Kept.{found_sent}
-use Rattle.rbc_disk.specs.Disk.{Disk}
-use Rattle.sbp_bus.specs.declared.places.Holder.{Holder}
-use Rattle.sbp_bus.specs.Generations.{node_of, topology_at}
-use Rattle.sbp_bus.specs.Places.{or_nobody}
-use Rattle.sbp_journal.specs.Run.{Moment}
-use Rattle.sbp_journal.specs.declared.note.Note.{Note}
-use Rattle.sbp_journal.specs.Wire.{Terms, terms}
-use Rattle.sbp_target.specs.declared.purpose.Purpose.{Purpose}
-use Rattle.sbp_target.specs.Nodes.{NodeState, login_at}
-use Rattle.sbp_target.specs.Serving.{is_barred}
-use Rattle.sbp_world.specs.Telling.{holder}
-use Rattle.sbp_world.specs.Wire.Wires.{Stands}
-use Rattle.sbp_world.specs.Worlds.{WorldState}
 use Rattle.sbp_world.proofs.FitTarget.Demands.{FitsDemand, demand_fits}
 use Rattle.sbp_world.proofs.Wire.Bus.{holds, node_has}
-use Rattle.target_base.specs.declared.address.Access.{Access}
 use Rattle.target_base.specs.declared.address.Demand.TheVariants as demands
-use Rattle.target_base.specs.Addresses.{demand_of}
 use Rattle.sbp_target.proofs.Histories.Calling.{Good}
 use Rattle.sbp_target.proofs.Histories.Found.{IsFound, found as found_as}
 use Rattle.sbp_target.proofs.Histories.Settled.{reaches}
-use Rattle.sbp_world.specs.Agents.Alike.{has_list}
-use Rattle.sbp_world.specs.Agents.Holders.{AreHeldAt}
 use Rattle.sbp_world.proofs.Agents.Management.Holding.{Holding, ours}
 use Rattle.sbp_world.proofs.Agents.Management.Still.{hist}
-use Rattle.sbp_world.specs.Sessions.Starting.{GoesOn, IsAsked, OperationsStart}
 use Rattle.sbp_world.proofs.Sessions.Starting.{starting_law}
-use Rattle.sbp_world.specs.Lists.Needs.{machine_at}
-use Rattle.sbp_world.specs.Lists.Opens.{AreOpened}
 use Rattle.sbp_world.proofs.Lists.LiveTurns.{TargetCall, TurnOf, by_clearing, by_own, by_sight, by_target, delivers, still}
 use Rattle.sbp_world.proofs.Lists.OpenTurns.{listing_up}
 use Rattle.sbp_world.proofs.Hosts.Cores.{not_so as up_state}

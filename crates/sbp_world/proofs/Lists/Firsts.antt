@@ -1,44 +1,18 @@
 -- A packet that points an agent to an ORB is the write for a list of its initiator, with the address of the first ORB.
-use Rattle.std.proofs.Common.{arith, ◌≡◌, ◌∙◌, refl, sym, ap, subst, ℕ, ◌<◌, ◌==◌, Bool, true, false, cond, List, ◌∷◌, ◌++◌, length, map, Option, Some, None}
-use Rattle.std.proofs.lemmas.Option.{same_Some}
-use Rattle.async_packet.specs.declared.packet.Header.{Header}
-use Rattle.async_packet.specs.Packet.{Packet, lock, lock_response, read_block, read_block_response, read_quadlet, read_quadlet_response, write_block, write_quadlet, write_response}
+use Rattle.sbp_world.proofs.Words.Std.{arith, ◌≡◌, ◌∙◌, refl, sym, ap, subst, ℕ, ◌<◌, ◌==◌, Bool, true, false, cond, List, ◌∷◌, ◌++◌, length, map, Option, Some, None, same_Some}
+use Rattle.sbp_world.proofs.Words.Wire.{Header, Packet, lock, lock_response, read_block, read_block_response, read_quadlet, read_quadlet_response, write_block, write_quadlet, write_response, Access, access_of, management_address, Moment, asked, said, Sending, terms}
+use Rattle.sbp_world.proofs.Words.Target.{aligned, named, Asked, AgentRegister, Demand, Register, Row, accessed, accessed_at, by_address, by_register, by_rom, by_type, demand_by, demand_of, management_start, offset_in, or_nowhere, reached, register_at, row_of, served_by}
+use Rattle.sbp_world.proofs.Words.Initiator.{start, OrbPointer, At, offset_at, pointer_at}
+use Rattle.sbp_world.proofs.Words.Laws.{slot_at, access_in, access_in_bytes, spelled_by}
+use Rattle.sbp_world.proofs.Words.World.{history_of, after, beginning, after_all, begun, NoneInjected, more_deliveries, pointer_write, register_write, IsWrite, PointersAt, of_bell, of_enable, of_management, of_pointer, of_reset, pointed_list, FirstLaw, IsCalm, IsPointedBy, IsFirst, WritesManaged}
 use Rattle.bus_memory.specs.declared.window.Window.TheVariants as windows
-use Rattle.bus_memory.specs.Windows.{start}
-use Rattle.command_agent.specs.Machine.{aligned, named}
-use Rattle.orb_layout.specs.declared.pointer.OrbPointer.{OrbPointer}
-use Rattle.orb_layout.specs.declared.pointer.OrbPointer.TheVariants.{At}
-use Rattle.orb_layout.specs.Pointers.{offset_at, pointer_at}
-use Rattle.sbp_journal.specs.Addresses.{Access, access_of, management_address}
-use Rattle.sbp_journal.specs.Run.{Moment, asked, said}
-use Rattle.sbp_journal.specs.Transactions.{Sending}
-use Rattle.sbp_journal.specs.Wire.{terms}
-use Rattle.sbp_laws.specs.Lists.{slot_at}
-use Rattle.sbp_laws.specs.Packets.{access_in, access_in_bytes, spelled_by}
-use Rattle.sbp_world.specs.Histories.{history_of}
-use Rattle.sbp_world.specs.Runs.{after, beginning}
-use Rattle.sbp_world.specs.Settling.{after_all}
-use Rattle.sbp_world.specs.Worlds.{begun}
-use Rattle.target_base.specs.declared.address.Access.{Access as Asked}
 use Rattle.target_base.specs.declared.address.Access.TheVariants as accesses
-use Rattle.target_base.specs.declared.address.AgentRegister.{AgentRegister}
-use Rattle.target_base.specs.declared.address.Demand.{Demand}
 use Rattle.target_base.specs.declared.address.Demand.TheVariants as demands
-use Rattle.target_base.specs.declared.address.Register.{Register}
 use Rattle.target_base.specs.declared.address.Register.TheVariants as registers
-use Rattle.target_base.specs.Addresses.{Row, accessed, accessed_at, by_address, by_register, by_rom, by_type, demand_by, demand_of, managed, management_start, offset_in, or_nowhere, reached, register_at, row_of, served, served_by}
-use Rattle.sbp_world.specs.Hosts.Carrying.{NoneInjected}
-use Rattle.sbp_world.specs.Hosts.Runs.{more_deliveries}
+use Rattle.target_base.specs.Addresses.{managed, served}
 use Rattle.sbp_world.proofs.Hosts.Carrying.{carries_law}
 use Rattle.sbp_world.proofs.Hosts.Runs.{count_after, count_between}
-use Rattle.sbp_world.specs.Pointers.Moments.{pointer_write, register_write}
-use Rattle.sbp_world.specs.Pointers.Pointers.{IsWrite, PointersAt, of_bell, of_enable, of_management, of_pointer, of_reset, pointed_list}
 use Rattle.sbp_world.proofs.Pointers.Proved.{pointers_law}
-use Rattle.sbp_world.specs.Lists.Firsts.{FirstLaw}
-use Rattle.sbp_world.specs.Lists.Needs.{IsCalm}
-use Rattle.sbp_world.specs.Lists.Opens.{IsPointedBy}
-use Rattle.sbp_world.specs.Lists.Places.{IsFirst}
-use Rattle.sbp_world.specs.Lists.Roms.{WritesManaged}
 use Rattle.sbp_world.proofs.Lists.RomHeld.{rom_law}
 use Rattle.sbp_world.proofs.Lists.UnderwayRuns.{delivering}
 use Rattle.sbp_world.proofs.Common.{untrue}

@@ -1,20 +1,10 @@
 -- An agent that writes an answer has written fewer bytes than this has, and it has as many as the buffer of its present ORB: so it stays by each call but a reply by which a command runs.
-use Rattle.std.proofs.Common.{◌≡◌, ◌<◌, ℕ, Bool, true, false, cond, length}
-use Rattle.std.proofs.lemmas.Bool.{false≢true}
-use Rattle.command_agent.specs.declared.phase.Phase.{Phase}
+use Rattle.sbp_world.proofs.Words.Std.{◌≡◌, ◌<◌, ℕ, Bool, true, false, cond, length, false≢true}
+use Rattle.sbp_world.proofs.Words.Target.{Phase, AgentState, AgentStep, Which, Ahead, Main, Machine, is_ahead, state_in, abort_step, ahead_lost, doorbell_in, doorbell_step, lost_step, main_lost, point_in, point_step, pointed, quiet, reset_step}
+use Rattle.sbp_world.proofs.Words.Initiator.{FailCause, OrbPointer, At, Null, bytes_of}
+use Rattle.sbp_world.proofs.Words.World.{answers}
 use Rattle.command_agent.specs.declared.phase.Phase.TheVariants as phases
-use Rattle.command_agent.specs.declared.step.AgentState.{AgentState}
 use Rattle.command_agent.specs.declared.step.AgentState.TheVariants as states
-use Rattle.command_agent.specs.declared.step.AgentStep.{AgentStep}
-use Rattle.command_agent.specs.declared.step.Which.{Which}
-use Rattle.command_agent.specs.declared.step.Which.TheVariants.{Ahead, Main}
-use Rattle.command_agent.specs.Machine.{Machine, is_ahead, state_in}
-use Rattle.command_agent.specs.Steps.{abort_step, ahead_lost, doorbell_in, doorbell_step, lost_step, main_lost, point_in, point_step, pointed, quiet, reset_step}
-use Rattle.orb_layout.specs.declared.ask.FailCause.{FailCause}
-use Rattle.orb_layout.specs.declared.pointer.OrbPointer.{OrbPointer}
-use Rattle.orb_layout.specs.declared.pointer.OrbPointer.TheVariants.{At, Null}
-use Rattle.page_table.specs.Buffer.{bytes_of}
-use Rattle.sbp_world.specs.Agents.Alike.{answers}
 
 pub record IsPart (written whole buffer : ℕ) : Type 0 where
   pub more : written < whole

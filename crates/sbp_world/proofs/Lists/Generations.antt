@@ -1,12 +1,8 @@
 -- What each moment leaves of the generation of a node; and that the generation of the target does not fall.
-use Rattle.std.proofs.Common.{arith, ◌≡◌, refl, ◌∙◌, ap, subst, ℕ, ◌≤◌, nat_eq, ◌==◌, Bool, true, false, cond, List, ◌∷◌, Option, Some, None}
-use Rattle.std.proofs.lemmas.Bool.Decides.{nat_tests}
-use Rattle.sbp_journal.specs.Run.{Moment, asked, said}
-use Rattle.sbp_journal.specs.Transactions.{Kind, Part, Sending, Transaction, asked_by, begun_by, no_packet, part_of, request, response}
-use Rattle.sbp_journal.specs.Wire.{Held, Owed, Terms, begins, closes, closes_if, free, gets, gets_as, gives, ignores, ignores_that, judges, judges_if, opened, pays, puts, rests, sends, terms, times_out, waits}
-use Rattle.sbp_journal.specs.declared.cause.Cause.{Cause}
+use Rattle.sbp_world.proofs.Words.Std.{arith, ◌≡◌, refl, ◌∙◌, ap, subst, ℕ, ◌≤◌, nat_eq, ◌==◌, Bool, true, false, cond, List, ◌∷◌, Option, Some, None, nat_tests}
+use Rattle.sbp_world.proofs.Words.Wire.{Moment, asked, said, Kind, Part, Sending, Transaction, asked_by, begun_by, part_of, request, response, Held, Owed, Terms, begins, closes, closes_if, free, gets, gets_as, gives, ignores, ignores_that, judges, judges_if, opened, pays, puts, rests, sends, terms, times_out, waits, Cause, Event}
+use Rattle.sbp_journal.specs.Transactions.{no_packet}
 use Rattle.sbp_journal.specs.declared.cause.Cause.TheVariants as causes
-use Rattle.sbp_journal.specs.declared.event.Event.{Event}
 use Rattle.sbp_journal.specs.declared.event.Event.TheVariants as events
 use Rattle.sbp_journal.specs.declared.note.Note.TheVariants as notes
 use Rattle.sbp_world.proofs.Lists.Rises.{RisesAt}

@@ -1,30 +1,15 @@
 -- What a delivery to the target makes of the logins that it granted, of its undecided operation and of its live logins (NCITS 325-1998, management agent and login): an
 -- operation begins with a write of MANAGEMENT_AGENT, and is decided with at most one login.
-use Rattle.std.proofs.Common.{arith, ◌≡◌, ◌∙◌, refl, sym, ap, ℕ, ◌+◌, ◌*◌, ◌≤◌, Bool, true, false, cond, List, length, Option, Some, None}
-use Rattle.async_packet.specs.Packet.{Packet, header_in}
-use Rattle.label_table.specs.Layer.{Finding, judging_step, of_again, of_generation, of_grammar, of_label, of_request, of_response}
-use Rattle.login_table.specs.Table.{Table}
-use Rattle.mgmt_agent.specs.declared.operation.Operation.{Operation}
+use Rattle.sbp_world.proofs.Words.Std.{arith, ◌≡◌, ◌∙◌, refl, sym, ap, ℕ, ◌+◌, ◌*◌, ◌≤◌, Bool, true, false, cond, List, length, Option, Some, None}
+use Rattle.sbp_world.proofs.Words.Wire.{Packet, header_in, Finding, judging_step, of_again, of_generation, of_grammar, of_label, of_request, of_response, Side, empty_outbox}
+use Rattle.sbp_world.proofs.Words.Target.{Table, Operation, Disk, Told, demand_of, Demand, Purpose, NodeState, scene, answer_in, received, whole, is_barred}
+use Rattle.sbp_world.proofs.Words.Initiator.{Nothing}
+use Rattle.sbp_world.proofs.Words.World.{CallsKeep, demanded, requested, Agrees, Office, by_sides, is_written}
 use Rattle.mgmt_agent.specs.Machine.{Machine}
-use Rattle.orb_layout.specs.declared.ask.Ask.TheVariants.{Nothing}
-use Rattle.rbc_disk.specs.Disk.{Disk}
-use Rattle.rbc_disk.specs.Runs.{Told}
-use Rattle.sbp_journal.specs.declared.side.Side.{Side}
-use Rattle.sbp_journal.specs.Outgoings.{empty_outbox}
-use Rattle.target_base.specs.Addresses.{demand_of}
-use Rattle.target_base.specs.declared.address.Demand.{Demand}
 use Rattle.target_base.specs.declared.address.Demand.TheVariants as demands
-use Rattle.sbp_target.specs.declared.purpose.Purpose.{Purpose}
 use Rattle.sbp_target.specs.declared.purpose.Purpose.TheVariants as purposes
-use Rattle.sbp_target.specs.Nodes.{NodeState, scene}
-use Rattle.sbp_target.specs.Receiving.{answer_in, received}
-use Rattle.sbp_target.specs.Replies.{whole}
-use Rattle.sbp_target.specs.Serving.{is_barred}
 use Rattle.sbp_target.proofs.Histories.Calling.{Good}
-use Rattle.sbp_world.specs.Agents.Management.Calls.{CallsKeep, demanded, requested}
 use Rattle.sbp_world.specs.Agents.Management.Calls as calls
-use Rattle.sbp_world.specs.Agents.Management.Offices.{Agrees, Office, by_sides}
-use Rattle.sbp_world.specs.Sessions.Writing.{is_written}
 use Rattle.sbp_world.proofs.Sessions.Tables.{delivery_tabled, tabled}
 use Rattle.sbp_world.proofs.Sessions.Writing.{behind}
 use Rattle.sbp_world.proofs.Lists.CountedLogins.{live_in}

@@ -1,30 +1,12 @@
 -- In every run there are nine lines for each eight logins that the target granted, but for the first few: eight are live at most, others went with a logout or with a reset, and each
 -- decision takes a write of MANAGEMENT_AGENT, which an initiator sent in a line of its own.
-use Rattle.std.proofs.Common.{arith, ◌≡◌, ◌∙◌, refl, sym, ap, subst, ℕ, suc, ◌+◌, ◌*◌, ◌^◌, ◌<◌, ◌≤◌, Bool, true, false, List, [], ◌∷◌, ◌++◌, map, length, Option, Some, None}
-use Rattle.packet_store.specs.declared.sent.Kept.{Kept}
-use Rattle.packet_store.specs.declared.sent.Sent.{Sent}
-use Rattle.packet_store.specs.Kept.{found, found_sent, is_flying}
-use Rattle.packet_store.specs.Stored.{Stored}
-use Rattle.bus_transactions.specs.May.{is_reset}
+use Rattle.sbp_world.proofs.Words.Std.{arith, ◌≡◌, ◌∙◌, refl, sym, ap, subst, ℕ, suc, ◌+◌, ◌*◌, ◌^◌, ◌<◌, ◌≤◌, Bool, true, false, List, [], ◌∷◌, ◌++◌, map, length, Option, Some, None}
+use Rattle.sbp_world.proofs.Words.Wire.{Kept, Sent, found, found_sent, is_flying, Stored, is_reset, end_note, no_packet, Event, Note, Moment, asked, said, terms}
+use Rattle.sbp_world.proofs.Words.Target.{Disk, Told}
+use Rattle.sbp_world.proofs.Words.World.{marked, history_of, moments_behind, MayHappen, happens, new_world, ready_logins, MayIf, delivered_if, is_in_flight, may_repeat, AreEntries, Entry, Run, after, beginning, MayAll, MayNext, after_all, delivered_at, delivered_next, is_settled, lowest, AreLines, IsLine, Scene, WorldState, begun, without_notes, IsRun, entries, entries_of, FewLoginsLaw}
 use Rattle.bus_transactions.proofs.Reaches.{goes_on}
-use Rattle.rbc_disk.specs.Disk.{Disk}
-use Rattle.rbc_disk.specs.Runs.{Told}
-use Rattle.sbp_bus.specs.Packets.{end_note, no_packet}
-use Rattle.sbp_journal.specs.declared.event.Event.{Event}
 use Rattle.sbp_journal.specs.declared.event.Event.TheVariants as events
-use Rattle.sbp_journal.specs.declared.note.Note.{Note}
-use Rattle.sbp_journal.specs.Run.{Moment, asked, said}
-use Rattle.sbp_journal.specs.Wire.{terms}
-use Rattle.sbp_world.specs.Delivering.{marked}
-use Rattle.sbp_world.specs.Histories.{history_of, moments_behind}
-use Rattle.sbp_world.specs.Lines.{MayHappen, happens}
-use Rattle.sbp_world.specs.Making.{new_world, ready_logins}
-use Rattle.sbp_world.specs.Packets.{MayIf, delivered_if, is_in_flight, may_repeat}
-use Rattle.sbp_world.specs.Runs.{AreEntries, Entry, Run, after, beginning}
-use Rattle.sbp_world.specs.Settling.{MayAll, MayNext, after_all, delivered_at, delivered_next, is_settled, lowest}
 use Rattle.sbp_world.specs.Settling as settling
-use Rattle.sbp_world.specs.Wire.Lines.{AreLines, IsLine}
-use Rattle.sbp_world.specs.Worlds.{Scene, WorldState, begun, without_notes}
 use Rattle.sbp_world.proofs.Wire.Sound.{first_flies}
 use Rattle.sbp_world.proofs.Wire.ToldBytes.{AreTold, happened_fits}
 use Rattle.sbp_world.proofs.Agents.Holders.{seats_after}
@@ -34,9 +16,6 @@ use Rattle.sbp_world.proofs.Agents.Management.Runs.{holds_after}
 use Rattle.sbp_world.proofs.Agents.Management.Still.{hist}
 use Rattle.sbp_world.proofs.Agents.Seating.{all_seats, opened}
 use Rattle.sbp_world.proofs.Agents.Seats.{Seats}
-use Rattle.sbp_world.specs.Hosts.Runs.{IsRun}
-use Rattle.sbp_world.specs.Lists.FewLogins.{entries, entries_of}
-use Rattle.sbp_world.specs.Lists.FewRuns.{FewLoginsLaw}
 use Rattle.sbp_world.proofs.Lists.CountedLogins.{live_few, live_in}
 use Rattle.sbp_world.proofs.Lists.DecisionsDue.{undecided}
 use Rattle.sbp_world.proofs.Lists.GrantLines as lines

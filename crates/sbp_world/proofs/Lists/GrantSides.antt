@@ -1,51 +1,23 @@
 -- How many logins the target tells that it granted, in each call (NCITS 325-1998, login): those of the decision that a reply brings to the operation of its management, and
 -- else none.
-use Rattle.std.proofs.Common.{arith, ◌≡◌, ◌∙◌, refl, sym, subst, ℕ, ◌+◌, nat_lt, Bool, true, false, cond, List, [], ◌∷◌, ◌++◌, length, Option, Some, None, Result, Ok, Err}
-use Rattle.async_packet.specs.Labels.{LabelParts}
-use Rattle.async_packet.specs.Packet.{Packet, header_in}
-use Rattle.label_table.specs.declared.judgement.Asked.{Asked}
-use Rattle.label_table.specs.declared.reply.Stale.{Stale}
-use Rattle.label_table.specs.Bodies.{Body}
+use Rattle.sbp_world.proofs.Words.Std.{arith, ◌≡◌, ◌∙◌, refl, sym, subst, ℕ, ◌+◌, nat_lt, Bool, true, false, cond, List, [], ◌∷◌, ◌++◌, length, Option, Some, None, Result, Ok, Err}
+use Rattle.sbp_world.proofs.Words.Wire.{LabelParts, Packet, header_in, Asked, Stale, Body, Finding, Layer, asking_step, expiring_step, judging_step, of_again, of_generation, of_grammar, of_label, of_request, of_response, seeing_step, function_word, login_if, Judged, FunctionWord, Side, OutboxState, empty_outbox}
+use Rattle.sbp_world.proofs.Words.Target.{Table, expired_ids, Decision, Effect, ManagerStep, Busy, Operation, Disk, Told, demand_of, Demand, Purpose, ask_manager, cut_placed, decided_by, effect_by, failed_by, lose_operation, lost_in, manage, managed_in, managed_with, manager_asked, manager_body, manager_lost, manager_sent, place_in, tell_failed, with_manager, NodeState, Scene, scene, answer_in, cleared_node, concluded, expired, expired_in, judged_scene, received, received_as, reset_by, seen, ticked, timed_out, with_layer, Whole, scene_of, whole, sent_by, answered, is_barred, serve, served_as, start, started_by, cut_all}
+use Rattle.sbp_world.proofs.Words.Initiator.{Ask, FailCause, Answer, Expired, NoLabel}
 use Rattle.label_table.specs.History as wire
-use Rattle.label_table.specs.Layer.{Finding, Layer, asking_step, expiring_step, judging_step, of_again, of_generation, of_grammar, of_label, of_request, of_response, seeing_step}
-use Rattle.login_table.specs.Table.{Table, expired_ids}
-use Rattle.mgmt_agent.specs.declared.decision.Decision.{Decision}
-use Rattle.mgmt_agent.specs.declared.decision.Effect.{Effect}
 use Rattle.mgmt_agent.specs.declared.decision.Effect.TheVariants as effects
-use Rattle.mgmt_agent.specs.declared.decision.ManagerStep.{ManagerStep}
-use Rattle.mgmt_agent.specs.declared.operation.Busy.{Busy}
-use Rattle.mgmt_agent.specs.declared.operation.Operation.{Operation}
 use Rattle.mgmt_agent.specs.declared.operation.Phase.{Phase}
 use Rattle.mgmt_agent.specs.declared.operation.Phase.TheVariants as phases
 use Rattle.mgmt_agent.specs.Machine as management
-use Rattle.orb_layout.specs.declared.ask.Ask.{Ask}
-use Rattle.orb_layout.specs.declared.ask.FailCause.{FailCause}
-use Rattle.orb_layout.specs.Replies.{Answer, Expired, NoLabel}
-use Rattle.rbc_disk.specs.Disk.{Disk}
-use Rattle.rbc_disk.specs.Runs.{Told}
-use Rattle.sbp_bus.specs.Words.{function_word, login_if}
 use Rattle.sbp_journal.specs.declared.cause.Cause.TheVariants as ignored
 use Rattle.sbp_journal.specs.declared.cause.CutCause.TheVariants as cuts
-use Rattle.sbp_journal.specs.declared.cause.Judged.{Judged}
 use Rattle.sbp_journal.specs.declared.cause.Judged.TheVariants as judgements
-use Rattle.sbp_journal.specs.declared.operation.FunctionWord.{FunctionWord}
 use Rattle.sbp_journal.specs.declared.operation.FunctionWord.TheVariants as words
-use Rattle.sbp_journal.specs.declared.side.Side.{Side}
 use Rattle.sbp_journal.specs.declared.side.Side.TheVariants as sides
-use Rattle.sbp_journal.specs.Outgoings.{OutboxState, empty_outbox}
-use Rattle.target_base.specs.Addresses.{demand_of}
-use Rattle.target_base.specs.declared.address.Demand.{Demand}
 use Rattle.target_base.specs.declared.address.Demand.TheVariants as demands
-use Rattle.sbp_target.specs.declared.purpose.Purpose.{Purpose}
 use Rattle.sbp_target.specs.declared.purpose.Purpose.TheVariants as purposes
-use Rattle.sbp_target.specs.Management.{ask_manager, cut_placed, decided_by, effect_by, failed_by, lose_operation, lost_in, manage, managed_in, managed_with, manager_asked, manager_body, manager_lost, manager_sent, place_in, tell_failed, with_manager}
-use Rattle.sbp_target.specs.Nodes.{NodeState, Scene, scene}
-use Rattle.sbp_target.specs.Receiving.{answer_in, cleared_node, concluded, expired, expired_in, judged_scene, received, received_as, reset_by, seen, ticked, timed_out, with_layer}
-use Rattle.sbp_target.specs.Replies.{Whole, scene_of, whole}
-use Rattle.sbp_target.specs.Sending.{sent_by}
 use Rattle.sbp_target.specs.Sending as sending
-use Rattle.sbp_target.specs.Serving.{answered, is_barred, request_step, serve, served_as, start, started_by}
-use Rattle.sbp_target.specs.Units.{cut_all}
+use Rattle.sbp_target.specs.Serving.{request_step}
 use Rattle.sbp_target.proofs.Histories.Calling.{Good}
 use Rattle.sbp_target.proofs.Histories.Found.{IsFound, found}
 use Rattle.sbp_target.proofs.Histories.Primitives.{Known, closing_known, expiring_known, live_on}

@@ -1,9 +1,10 @@
 -- Each login of an initiator that is done in a run stands on a status block that it got for it, with status 00; each logout that is refused, on one with another.
-use Rattle.std.proofs.Common.{arith, ◌≡◌, ◌∙◌, sym, ap, subst, ◌⊎◌, inl, inr, ℕ, suc, ◌<◌, ◌==◌, not, Bool, true, false, List, [], ◌∷◌, length, Some, None, Ok}
-use Rattle.std.proofs.lemmas.Bool.Decides.{nat_tests}
-use Rattle.async_packet.specs.Labels.{LabelParts}
-use Rattle.async_packet.specs.Packet.{Packet, write_block}
-use Rattle.async_packet.specs.Reading.{reading}
+use Rattle.sbp_world.proofs.Words.Std.{arith, ◌≡◌, ◌∙◌, sym, ap, subst, ◌⊎◌, inl, inr, ℕ, suc, ◌<◌, ◌==◌, not, Bool, true, false, List, [], ◌∷◌, length, Some, None, Ok, nat_tests}
+use Rattle.sbp_world.proofs.Words.Wire.{LabelParts, Packet, write_block, reading, expiring_step, judging_step, seeing_step, judged_note, empty_outbox, Moment, asks, said, terms, Judged, Action, Note, Operation, OpWord, Side}
+use Rattle.sbp_world.proofs.Words.Target.{Disk}
+use Rattle.sbp_world.proofs.Words.Initiator.{act_step, Running, InitiatorState, Turn, new_state, expire_step, receive_step, see_step, is_out_seat}
+use Rattle.sbp_world.proofs.Words.Laws.{EachMoment, event_of}
+use Rattle.sbp_world.proofs.Words.World.{behind, after, beginning, WorldState, GrantedAt, IsAnswerTo, IsGot}
 use Rattle.sbp_world.proofs.Hosts.ActLeft.{act_left}
 use Rattle.sbp_world.proofs.Hosts.Answering.{request_of}
 use Rattle.sbp_world.proofs.Hosts.Carried.{between_runs, of_runs}
@@ -13,37 +14,12 @@ use Rattle.sbp_world.proofs.Hosts.Layered.{AreTame, expire_left, receive_left}
 use Rattle.sbp_world.proofs.Hosts.Pointed.{stale_is}
 use Rattle.sbp_world.proofs.Hosts.PointSees.{see_left}
 use Rattle.sbp_world.proofs.Hosts.Shown.{IsHeard, IsShown}
-use Rattle.sbp_world.specs.Hosts.Calls.{behind}
-use Rattle.label_table.specs.Layer.{expiring_step, judging_step, seeing_step}
-use Rattle.rbc_disk.specs.Disk.{Disk}
-use Rattle.sbp_bus.specs.Packets.{judged_note}
-use Rattle.sbp_initiator.specs.Acting.{act_step}
-use Rattle.sbp_initiator.specs.declared.purpose.Running.{Running}
-use Rattle.sbp_initiator.specs.declared.state.InitiatorState.{InitiatorState}
-use Rattle.sbp_initiator.specs.Effects.{Turn}
-use Rattle.sbp_initiator.specs.Initiators.{new_state}
-use Rattle.sbp_initiator.specs.Receiving.{expire_step, receive_step}
-use Rattle.sbp_initiator.specs.Seeing.{see_step}
-use Rattle.sbp_journal.specs.Outgoings.{empty_outbox}
-use Rattle.sbp_journal.specs.Run.{Moment, asked as asks, said}
-use Rattle.sbp_journal.specs.Wire.{terms}
-use Rattle.sbp_journal.specs.declared.cause.Judged.{Judged}
 use Rattle.sbp_journal.specs.declared.cause.Judged.TheVariants as judgements
-use Rattle.sbp_journal.specs.declared.event.Action.{Action}
 use Rattle.sbp_journal.specs.declared.event.Event.TheVariants as events
-use Rattle.sbp_journal.specs.declared.note.Note.{Note}
 use Rattle.sbp_journal.specs.declared.note.Note.TheVariants as notes
-use Rattle.sbp_journal.specs.declared.operation.Operation.{Operation}
 use Rattle.sbp_journal.specs.declared.operation.Operation.TheVariants as operations
-use Rattle.sbp_journal.specs.declared.operation.OpWord.{OpWord}
 use Rattle.sbp_journal.specs.declared.operation.OpWord.TheVariants as words
-use Rattle.sbp_journal.specs.declared.side.Side.{Side}
 use Rattle.sbp_journal.specs.declared.side.Side.TheVariants as sides
-use Rattle.sbp_laws.specs.Turns.{EachMoment, event_of}
-use Rattle.sbp_session.specs.Seats.{is_out_seat}
-use Rattle.sbp_world.specs.Runs.{after, beginning}
-use Rattle.sbp_world.specs.Worlds.{WorldState}
-use Rattle.sbp_world.specs.Lists.LoginAnswers.{GrantedAt, IsAnswerTo, IsGot}
 use Rattle.sbp_world.proofs.Lists.Courses.{EveryPlace}
 use Rattle.sbp_world.proofs.Lists.LiveDone.{AllDone, IfDone, NoStatus, Nobody, act_none, lapse_none, sight_none}
 use Rattle.sbp_world.proofs.Lists.LiveHears.{IsAnswered}

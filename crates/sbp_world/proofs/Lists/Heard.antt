@@ -1,42 +1,16 @@
 -- A response to a transaction of an agent is the one to the request that the agent waits for, by the history, and tells the laws what it tells the target.
-use Rattle.std.proofs.Common.{arith, ◌≡◌, ◌∙◌, refl, sym, ap, subst, ◌<◌, ℕ, is_some, Bool, true, false, cond, List, Option, Some, None}
-use Rattle.std.proofs.lemmas.Option.{same_Some}
-use Rattle.async_packet.specs.Labels.{LabelParts}
-use Rattle.async_packet.specs.Packet.{Packet, header_in}
-use Rattle.bus_transactions.specs.Answers.{AnswerLaw, AnswersWaiting}
-use Rattle.bus_transactions.specs.Reached.{IsAwaited}
-use Rattle.bus_transactions.specs.Rows.{kind_as, shape, shape_of}
-use Rattle.bus_transactions.specs.Wire.{Node, as_sending, transaction}
+use Rattle.sbp_world.proofs.Words.Std.{arith, ◌≡◌, ◌∙◌, refl, sym, ap, subst, ◌<◌, ℕ, is_some, Bool, true, false, cond, List, Option, Some, None, same_Some}
+use Rattle.sbp_world.proofs.Words.Wire.{LabelParts, Packet, header_in, AnswerLaw, AnswersWaiting, IsAwaited, kind_as, shape, shape_of, Node, as_sending, transaction, ReplyKind, Finding, Layer, judging_step, of_response, state_for, reply_kind, Kept, Sent, found_kept, found_sent, sent_of, Stored, Moment, Kind, Part, Sending, Transaction, asked_as, asked_by, begun_by, begun_if, between, is_same_kind, locking, part_in, part_of, reading_block, reading_quadlet, request, response, writing, Terms, terms, waits}
+use Rattle.sbp_world.proofs.Words.Target.{Which, Disk, Purpose, sent_to, which_in, desk_at, answer_in, IsUnderWay, TransactionLaw}
+use Rattle.sbp_world.proofs.Words.Laws.{receiver_in, Target, agent_at, for_agent, over, purpose_of, target_at}
+use Rattle.sbp_world.proofs.Words.World.{WorldState, Stands, AreAskedAt, serial_of, AreOf, Request, AreKnown, IsForAgent}
 use Rattle.bus_transactions.proofs.AnswerLaws.{answers_always}
 use Rattle.bus_transactions.proofs.Reaches.{goes_on}
 use Rattle.bus_transactions.proofs.PacketParts.{PartOf, asks, part_case, part_read, replies}
-use Rattle.command_agent.specs.declared.step.Which.{Which}
 use Rattle.label_table.specs.declared.place.LabelState.TheVariants as states
-use Rattle.label_table.specs.declared.reply.ReplyKind.{ReplyKind}
-use Rattle.label_table.specs.Layer.{Finding, Layer, judging_step, of_response}
-use Rattle.label_table.specs.Peers.{state_for}
-use Rattle.label_table.specs.Requests.{reply_kind}
-use Rattle.packet_store.specs.declared.sent.Kept.{Kept}
-use Rattle.packet_store.specs.declared.sent.Sent.{Sent}
-use Rattle.packet_store.specs.Kept.{found as found_kept, found_sent, sent_of}
-use Rattle.packet_store.specs.Stored.{Stored}
-use Rattle.rbc_disk.specs.Disk.{Disk}
-use Rattle.sbp_journal.specs.Run.{Moment}
-use Rattle.sbp_journal.specs.Transactions.{Kind, Part, Sending, Transaction, asked_as, asked_by, begun_by, begun_if, between, is_same_kind, locking, part_in, part_of, reading_block, reading_quadlet, request, response, writing}
-use Rattle.sbp_journal.specs.Wire.{Terms, terms, waits}
 use Rattle.sbp_laws.specs.Packets as laws
-use Rattle.sbp_laws.specs.Packets.{receiver_in}
-use Rattle.sbp_laws.specs.Targets.{Target, agent_at, for_agent, over, purpose_of, target_at}
-use Rattle.sbp_target.specs.declared.purpose.Purpose.{Purpose}
 use Rattle.sbp_target.specs.declared.purpose.Purpose.TheVariants as purposes
-use Rattle.sbp_target.specs.Agents.{sent_to}
-use Rattle.sbp_target.specs.Desks.{which_in}
-use Rattle.sbp_target.specs.Nodes.{desk_at}
-use Rattle.sbp_target.specs.Receiving.{answer_in}
-use Rattle.sbp_world.specs.Worlds.{WorldState}
-use Rattle.sbp_world.specs.Wire.Wires.{Stands}
 use Rattle.sbp_world.proofs.Wire.Bus.{holds}
-use Rattle.sbp_target.specs.Histories.Transactions.{IsUnderWay, TransactionLaw}
 use Rattle.sbp_target.proofs.Histories.Calling.{Good}
 use Rattle.sbp_target.proofs.Histories.Found.{IsFound, IsRead, found as found_as}
 use Rattle.sbp_target.proofs.Histories.Primitives.{Closing, closing_known}
@@ -45,10 +19,6 @@ use Rattle.sbp_world.proofs.Agents.Management.Delivering.{answer_is}
 use Rattle.sbp_world.proofs.Agents.Management.Hearing.{IsAnswer, label_number, response_current}
 use Rattle.sbp_world.proofs.Agents.Management.Holding.{Holding, is_of, past_terms, was_sent}
 use Rattle.sbp_world.proofs.Agents.Management.Still.{hist}
-use Rattle.sbp_world.specs.Agents.AskedRuns.{AreAskedAt, serial_of}
-use Rattle.sbp_world.specs.Agents.Calls.{AreOf}
-use Rattle.sbp_world.specs.Agents.Crews.{Request}
-use Rattle.sbp_world.specs.Agents.Serials.{AreKnown, IsForAgent}
 use Rattle.sbp_world.proofs.Agents.CrewLocks.{is_lock, lockless, none_locks}
 use Rattle.sbp_world.proofs.Agents.CrewSeats.{IsServing, serves_it, state_of}
 use Rattle.sbp_world.proofs.Agents.Handed.{are_handed}

@@ -1,23 +1,14 @@
 -- What is kept of the history of a run in which lists were open as they should be before, after each line and behind each delivery of a line that may follow:
 -- the law of lists, and that the agents are along them.
-use Rattle.std.proofs.Common.{◌≡◌, sym, ap, subst, ℕ, ◌<◌, ◌≤◌, Bool, false, List, ◌∷◌, ◌++◌, map, length, Option}
-use Rattle.rbc_disk.specs.Runs.{Told}
-use Rattle.sbp_journal.specs.declared.event.Event.{Event}
-use Rattle.sbp_journal.specs.Run.{Moment, asked, said}
-use Rattle.sbp_world.specs.Histories.{history_of}
-use Rattle.sbp_world.specs.Runs.{Run, after, beginning}
-use Rattle.sbp_world.specs.Settling.{MayAll, after_all}
-use Rattle.sbp_world.specs.Telling.{holder}
-use Rattle.sbp_world.specs.Worlds.{Scene, WorldState, begun}
-use Rattle.sbp_world.specs.Agents.Management.Terms.{DeliversMore}
+use Rattle.sbp_world.proofs.Words.Std.{◌≡◌, sym, ap, subst, ℕ, ◌<◌, ◌≤◌, Bool, false, List, ◌∷◌, ◌++◌, map, length, Option}
+use Rattle.sbp_world.proofs.Words.Wire.{Event, Moment, asked, said}
+use Rattle.sbp_world.proofs.Words.Target.{Told}
+use Rattle.sbp_world.proofs.Words.World.{history_of, Run, after, beginning, MayAll, after_all, holder, Scene, WorldState, begun, DeliversMore, IsRun, IsCalm, OpenBefore, OpenBetween, machine_at, OpensLaw}
 use Rattle.sbp_world.proofs.Agents.Management.Still.{hist}
-use Rattle.sbp_world.specs.Hosts.Runs.{IsRun}
-use Rattle.sbp_world.specs.Lists.Needs.{IsCalm, OpenBefore, OpenBetween, machine_at}
 use Rattle.sbp_world.proofs.Lists.Calm.{asked_calm, calm_before}
 use Rattle.sbp_world.proofs.Lists.Kept.{Kept}
 use Rattle.sbp_world.proofs.Lists.Runs.{EarlyAfter, KeptAfter, early_after, kept_after, kept_told, lists_here}
 use Rattle.sbp_world.proofs.Lists.Told.{AgentOn}
-use Rattle.sbp_world.specs.Lists.Opens.{OpensLaw}
 use Rattle.sbp_world.proofs.Lists.OpenProved.{opens_law}
 use Rattle.sbp_world.proofs.Lists.Passing.{PassLaw}
 

@@ -1,24 +1,15 @@
 -- What holds of the login of a host lasts: it is the one of the beginning, or the response that stood in its buffer as a login was done.
-use Rattle.std.proofs.Common.{◌≡◌, refl, sym, subst, ℕ, zero, suc, ◌==◌, ◌&&◌, not, nat_eq, nat_lt, Bool, true, false, cond, List, [], ◌∷◌, Option, Some, None}
-use Rattle.orb_layout.specs.declared.login.LoginResponse.{LoginResponse}
-use Rattle.orb_layout.specs.LoginResponses.{login_response}
-use Rattle.sbp_journal.specs.Run.{Moment, asked, said}
-use Rattle.sbp_journal.specs.Transactions.{Part, no_packet, part_of, request, response}
-use Rattle.sbp_journal.specs.Wire.{Terms}
-use Rattle.sbp_journal.specs.declared.event.Action.{Action}
+use Rattle.sbp_world.proofs.Words.Std.{◌≡◌, refl, sym, subst, ℕ, zero, suc, ◌==◌, ◌&&◌, not, nat_eq, nat_lt, Bool, true, false, cond, List, [], ◌∷◌, Option, Some, None}
+use Rattle.sbp_world.proofs.Words.Wire.{Moment, asked, said, Part, part_of, request, response, Terms, Action, Event, Note, Operation, OpWord}
+use Rattle.sbp_world.proofs.Words.Initiator.{LoginResponse, login_response}
+use Rattle.sbp_world.proofs.Words.Laws.{Host, Underway, acted, goes_on, host_at, host_by, known_host, list_begins, new_host, op_ended, operation_of, ready_host, response_of, ring, sent_in, present_list, answer_in, answered_at, packet_at, receiver_in, sender_in, EachMoment, event_of}
+use Rattle.sbp_journal.specs.Transactions.{no_packet}
 use Rattle.sbp_journal.specs.declared.event.Action.TheVariants as actions
-use Rattle.sbp_journal.specs.declared.event.Event.{Event}
 use Rattle.sbp_journal.specs.declared.event.Event.TheVariants as events
-use Rattle.sbp_journal.specs.declared.note.Note.{Note}
 use Rattle.sbp_journal.specs.declared.note.Note.TheVariants as notes
-use Rattle.sbp_journal.specs.declared.operation.Operation.{Operation}
 use Rattle.sbp_journal.specs.declared.operation.Operation.TheVariants as operations
-use Rattle.sbp_journal.specs.declared.operation.OpWord.{OpWord}
 use Rattle.sbp_journal.specs.declared.operation.OpWord.TheVariants as words
-use Rattle.sbp_laws.specs.Hosts.{Host, Underway, acted, goes_on, got_by, host_at, host_by, is_serial, known_host, list_begins, new_host, op_ended, operation_of, ready_host, reset_seen, response_of, ring, sent_as, sent_in}
-use Rattle.sbp_laws.specs.Lists.{present_list}
-use Rattle.sbp_laws.specs.Packets.{answer_in, answered_at, packet_at, receiver_in, sender_in}
-use Rattle.sbp_laws.specs.Turns.{EachMoment, event_of}
+use Rattle.sbp_laws.specs.Hosts.{got_by, is_serial, reset_seen, sent_as}
 use Rattle.sbp_world.proofs.Lists.UnderwayHosts.{begun_login, pointer_login}
 
 -- a login is done with a response of which it holds

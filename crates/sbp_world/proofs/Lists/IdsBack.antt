@@ -1,38 +1,16 @@
 -- What the target's operation of a calm initiator keeps of its ORB over a turn: where that is one of a reconnect, it is of an ID of the initiator, or of none.
-use Rattle.std.proofs.Common.{◌≡◌, ◌∙◌, inl, inr, ◌⊎◌, refl, sym, ap, subst, ℕ, ◌+◌, ◌^◌, ◌<◌, List, [], ◌++◌, length, Option, Some, None}
+use Rattle.sbp_world.proofs.Words.Std.{◌≡◌, ◌∙◌, inl, inr, ◌⊎◌, refl, sym, ap, subst, ℕ, ◌+◌, ◌^◌, ◌<◌, List, [], ◌++◌, length, Option, Some, None}
+use Rattle.sbp_world.proofs.Words.Wire.{SerialsCount, LabelParts, Packet, judging_step, of_response, Sent, found_sent, empty_outbox, Moment}
+use Rattle.sbp_world.proofs.Words.Target.{Operation, Disk, Told, NodeState, scene, answer_in, received, whole}
+use Rattle.sbp_world.proofs.Words.Initiator.{ManagementOrb, management_orb}
+use Rattle.sbp_world.proofs.Words.Laws.{place_bytes, place_held, host_at, EachMoment}
+use Rattle.sbp_world.proofs.Words.World.{NoneInjected, Scene, WorldState, AreAsked, KeepsIn, IsCalm, HasOwn, OwnBy, BringPlaces, AreShort}
 use Rattle.sbp_world.proofs.Agents.Management.Holding.{Holding}
 use Rattle.sbp_world.proofs.Agents.Management.Still.{hist}
-use Rattle.bus_transactions.specs.Packets.{SerialsCount}
-use Rattle.sbp_world.specs.Hosts.Carrying.{NoneInjected}
-use Rattle.async_packet.specs.Labels.{LabelParts}
-use Rattle.async_packet.specs.Packet.{Packet}
-use Rattle.label_table.specs.Layer.{judging_step, of_response}
 use Rattle.mgmt_agent.specs.declared.function.Function.TheVariants as functions
-use Rattle.mgmt_agent.specs.declared.operation.Operation.{Operation}
 use Rattle.mgmt_agent.specs.declared.operation.Phase.{Phase}
 use Rattle.mgmt_agent.specs.Machine.{Machine}
-use Rattle.orb_layout.specs.declared.management.ManagementOrb.{ManagementOrb}
-use Rattle.orb_layout.specs.ManagementOrbs.{management_orb}
-use Rattle.packet_store.specs.declared.sent.Sent.{Sent}
-use Rattle.packet_store.specs.Kept.{found_sent}
-use Rattle.rbc_disk.specs.Disk.{Disk}
-use Rattle.rbc_disk.specs.Runs.{Told}
-use Rattle.sbp_journal.specs.Outgoings.{empty_outbox}
-use Rattle.sbp_journal.specs.Run.{Moment}
-use Rattle.sbp_laws.specs.Served.{place_bytes, place_held}
-use Rattle.sbp_laws.specs.Hosts.{host_at}
-use Rattle.sbp_laws.specs.Turns.{EachMoment}
 use Rattle.sbp_target.specs.declared.purpose.Purpose.TheVariants as purposes
-use Rattle.sbp_target.specs.Nodes.{NodeState, scene}
-use Rattle.sbp_target.specs.Receiving.{answer_in, received}
-use Rattle.sbp_target.specs.Replies.{whole}
-use Rattle.sbp_world.specs.Worlds.{Scene, WorldState}
-use Rattle.sbp_world.specs.Lists.Contents.{AreAsked}
-use Rattle.sbp_world.specs.Lists.KeptOrbs.{KeepsIn}
-use Rattle.sbp_world.specs.Lists.Needs.{IsCalm}
-use Rattle.sbp_world.specs.Lists.Owners.{HasOwn, OwnBy}
-use Rattle.sbp_world.specs.Lists.PlaceReads.{BringPlaces}
-use Rattle.sbp_world.specs.Lists.Shorts.{AreShort}
 use Rattle.sbp_world.proofs.Lists.Courses.{Goes}
 use Rattle.sbp_world.proofs.Lists.IdsOwned.{own_on}
 use Rattle.sbp_world.proofs.Lists.IdsPlaces.{IfOwnOrb, IsOwnOrb, held_own}

@@ -1,27 +1,15 @@
 -- In every run the login that the host of an initiator has is of an ID of the initiator, or it has none: where each login that was done for it was of such an ID.
-use Rattle.std.proofs.Common.{arith, ◌≡◌, ◌∙◌, inl, inr, refl, sym, ap, subst, ℕ, ◌+◌, ◌<◌, ◌≤◌, ◌&&◌, nat_lt, Bool, true, false, List, [], ◌∷◌, ◌++◌, length, append_assoc}
-use Rattle.std.proofs.lemmas.Bool.Decides.{nat_tests}
+use Rattle.sbp_world.proofs.Words.Std.{arith, ◌≡◌, ◌∙◌, inl, inr, refl, sym, ap, subst, ℕ, ◌+◌, ◌<◌, ◌≤◌, ◌&&◌, nat_lt, Bool, true, false, List, [], ◌∷◌, ◌++◌, length, append_assoc, nat_tests}
+use Rattle.sbp_world.proofs.Words.Wire.{Moment, asked, said, Note, Operation, OpWord}
+use Rattle.sbp_world.proofs.Words.Target.{Table, place_at, Disk}
+use Rattle.sbp_world.proofs.Words.Initiator.{LoginResponse, login_response}
+use Rattle.sbp_world.proofs.Words.Laws.{host_at, response_of, first_table, EachMoment}
+use Rattle.sbp_world.proofs.Words.World.{moments_behind, new_world, ready_logins, Run, after, beginning, WorldState, HadBy, HasOwn, OwnBy, OwnedAt}
 use Rattle.sbp_world.proofs.Agents.Management.Begins.{first_holds}
 use Rattle.sbp_world.proofs.Hosts.Runs.{count_after, count_between}
-use Rattle.login_table.specs.Table.{Table, place_at}
-use Rattle.orb_layout.specs.declared.login.LoginResponse.{LoginResponse}
-use Rattle.orb_layout.specs.LoginResponses.{login_response}
-use Rattle.rbc_disk.specs.Disk.{Disk}
-use Rattle.sbp_journal.specs.Run.{Moment, asked, said}
-use Rattle.sbp_journal.specs.declared.note.Note.{Note}
 use Rattle.sbp_journal.specs.declared.note.Note.TheVariants as notes
-use Rattle.sbp_journal.specs.declared.operation.Operation.{Operation}
 use Rattle.sbp_journal.specs.declared.operation.Operation.TheVariants as operations
-use Rattle.sbp_journal.specs.declared.operation.OpWord.{OpWord}
 use Rattle.sbp_journal.specs.declared.operation.OpWord.TheVariants as words
-use Rattle.sbp_laws.specs.Hosts.{host_at, response_of}
-use Rattle.sbp_laws.specs.Targets.{first_table}
-use Rattle.sbp_laws.specs.Turns.{EachMoment}
-use Rattle.sbp_world.specs.Histories.{moments_behind}
-use Rattle.sbp_world.specs.Making.{new_world, ready_logins}
-use Rattle.sbp_world.specs.Runs.{Run, after, beginning}
-use Rattle.sbp_world.specs.Worlds.{WorldState}
-use Rattle.sbp_world.specs.Lists.Owners.{HadBy, HasOwn, OwnBy, OwnedAt}
 use Rattle.sbp_world.proofs.Lists.Courses.{EveryPlace, Keeps, at_between, at_lines}
 use Rattle.sbp_world.proofs.Lists.HostLogins.{GrantsAt, ReadyAt, login_begun}
 use Rattle.sbp_world.proofs.Lists.IdsBegun.{BegunAt, begun_after, begun_between}

@@ -1,16 +1,10 @@
 -- At the start of a run the logins that have an ID of an initiator have the FIFO of a login, and each login of its node has such an ID. And wherever it is so, each live login
 -- of the node has the FIFO of a login.
-use Rattle.std.proofs.Common.{◌≡◌, ◌∙◌, inl, refl, sym, ap, subst, ℕ, ◌<◌, ◌≤◌, true, List, [], length, Some}
+use Rattle.sbp_world.proofs.Words.Std.{◌≡◌, ◌∙◌, inl, refl, sym, ap, subst, ℕ, ◌<◌, ◌≤◌, true, List, [], length, Some}
+use Rattle.sbp_world.proofs.Words.Wire.{Moment}
+use Rattle.sbp_world.proofs.Words.Target.{Login, Table, is_live, place_at, Disk}
+use Rattle.sbp_world.proofs.Words.World.{moments_behind, new_world, ready_logins, Run, beginning, IsLoginFifo, AreOwnIds}
 use Rattle.sbp_world.proofs.Agents.Management.Begins.{first_holds}
-use Rattle.login_table.specs.declared.login.Login.{Login}
-use Rattle.login_table.specs.Table.{Table, is_live, place_at}
-use Rattle.rbc_disk.specs.Disk.{Disk}
-use Rattle.sbp_journal.specs.Run.{Moment}
-use Rattle.sbp_world.specs.Histories.{moments_behind}
-use Rattle.sbp_world.specs.Making.{new_world, ready_logins}
-use Rattle.sbp_world.specs.Runs.{Run, beginning}
-use Rattle.sbp_world.specs.Lists.OwnLogins.{IsLoginFifo}
-use Rattle.sbp_world.specs.Lists.Owners.{AreOwnIds}
 use Rattle.sbp_world.proofs.Lists.KeptTurns.{id_is}
 use Rattle.sbp_world.proofs.Lists.LiveSteps.{id_in}
 use Rattle.sbp_world.proofs.Lists.OwnLogins.{table_owns}

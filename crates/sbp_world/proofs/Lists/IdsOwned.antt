@@ -1,35 +1,18 @@
 -- Whose an ID is stays so over the turns of a run, and no such ID is behind the one that was entered last, where few logins were given.
-use Rattle.std.proofs.Common.{arith, ◌≡◌, ◌∙◌, inl, inr, ◌⊎◌, refl, sym, ap, subst, ℕ, zero, suc, ◌+◌, ◌<◌, ◌≤◌, nat_eq, Bool, true, false, cond, List, [], ◌∷◌, ◌++◌, map, length, replicate, Option, Some, None}
-use Rattle.std.proofs.lemmas.Bool.Decides.{nat_tests}
+use Rattle.sbp_world.proofs.Words.Std.{arith, ◌≡◌, ◌∙◌, inl, inr, ◌⊎◌, refl, sym, ap, subst, ℕ, zero, suc, ◌+◌, ◌<◌, ◌≤◌, nat_eq, Bool, true, false, cond, List, [], ◌∷◌, ◌++◌, map, length, replicate, Option, Some, None, nat_tests}
+use Rattle.sbp_world.proofs.Words.Wire.{end_note, judged_note, Moment, asked, said, Terms, ids_of, opened, terms, Judged, Event, Note}
+use Rattle.sbp_world.proofs.Words.Target.{Login, Table, place_at, Disk, Told}
+use Rattle.sbp_world.proofs.Words.Laws.{id_for, target_at}
+use Rattle.sbp_world.proofs.Words.World.{Office, more_deliveries, moments_behind, new_world, ready_logins, Run, beginning, MayNext, delivered_at, delivered_next, lowest, Scene, WorldState, AreRising, FewLogins, BeginsTurn, HadBy, LivesWith, OwnBy}
 use Rattle.sbp_world.proofs.Agents.Management.Begins.{first_holds}
 use Rattle.sbp_world.proofs.Agents.Management.Holding.{Holding, past_terms}
 use Rattle.sbp_world.proofs.Agents.Management.Offices.{going_keeps, over_keeps}
 use Rattle.sbp_world.proofs.Agents.Management.Still.{hist}
-use Rattle.sbp_world.specs.Agents.Management.Offices.{Office}
-use Rattle.sbp_world.specs.Hosts.Runs.{more_deliveries}
-use Rattle.login_table.specs.declared.login.Login.{Login}
-use Rattle.login_table.specs.Table.{Table, place_at}
-use Rattle.rbc_disk.specs.Disk.{Disk}
-use Rattle.rbc_disk.specs.Runs.{Told}
-use Rattle.sbp_bus.specs.Packets.{end_note, judged_note}
-use Rattle.sbp_journal.specs.Run.{Moment, asked, said}
-use Rattle.sbp_journal.specs.Wire.{Terms, ids_of, opened, terms}
-use Rattle.sbp_journal.specs.declared.cause.Judged.{Judged}
 use Rattle.sbp_journal.specs.declared.cause.Judged.TheVariants as judgements
-use Rattle.sbp_journal.specs.declared.event.Event.{Event}
 use Rattle.sbp_journal.specs.declared.event.Event.TheVariants as events
-use Rattle.sbp_journal.specs.declared.note.Note.{Note}
 use Rattle.sbp_journal.specs.declared.note.Note.TheVariants as notes
-use Rattle.sbp_laws.specs.Packets.{id_for}
-use Rattle.sbp_laws.specs.Targets.{target_at}
-use Rattle.sbp_world.specs.Histories.{moments_behind}
-use Rattle.sbp_world.specs.Making.{new_world, ready_logins}
-use Rattle.sbp_world.specs.Runs.{Run, beginning}
-use Rattle.sbp_world.specs.Settling.{MayAt, MayNext, delivered_at, delivered_next, lowest}
-use Rattle.sbp_world.specs.Worlds.{Scene, WorldState}
+use Rattle.sbp_world.specs.Settling.{MayAt}
 use Rattle.sbp_world.proofs.Wire.Bus.{holds}
-use Rattle.sbp_world.specs.Lists.FewLogins.{AreRising, FewLogins}
-use Rattle.sbp_world.specs.Lists.Owners.{BeginsTurn, HadBy, LivesWith, OwnBy}
 use Rattle.sbp_world.proofs.Lists.Courses.{EveryPlace, Goes, Keeps, at_between, at_lines, by_delivery, by_end, by_line, by_start}
 use Rattle.sbp_world.proofs.Lists.Gots.{Next, next, next_line, same_still}
 use Rattle.sbp_world.proofs.Lists.IdsRuns.{AreFewIds, few_before, few_ids_everywhere, first_ids, rises}

@@ -1,25 +1,12 @@
 -- In every run with few logins, at each place between two turns, each live login of the node of an initiator that injected no packets has the FIFO of a login, whatever the
 -- other initiators injected: where each login that was done for it was of an ID of it, with the base of the agent of a place.
-use Rattle.std.proofs.Common.{arith, ◌≡◌, ◌∙◌, refl, sym, ap, subst, ℕ, ◌+◌, ◌^◌, ◌<◌, ◌≤◌, true, List, [], ◌++◌, length, Option, Some}
-use Rattle.async_packet.specs.Labels.{LabelParts}
-use Rattle.async_packet.specs.Packet.{Packet}
-use Rattle.bus_transactions.specs.Packets.{SerialsCount}
-use Rattle.label_table.specs.Layer.{judging_step, of_response}
-use Rattle.login_table.specs.Table.{Table, is_live, place_at}
-use Rattle.login_table.specs.declared.login.Login.{Login}
-use Rattle.mgmt_agent.specs.declared.operation.Operation.{Operation}
+use Rattle.sbp_world.proofs.Words.Std.{arith, ◌≡◌, ◌∙◌, refl, sym, ap, subst, ℕ, ◌+◌, ◌^◌, ◌<◌, ◌≤◌, true, List, [], ◌++◌, length, Option, Some}
+use Rattle.sbp_world.proofs.Words.Wire.{LabelParts, Packet, SerialsCount, judging_step, of_response, found_sent, Sent, Moment}
+use Rattle.sbp_world.proofs.Words.Target.{Table, is_live, place_at, Login, Operation, Disk, answer_in}
+use Rattle.sbp_world.proofs.Words.Initiator.{management_orb, Answer}
+use Rattle.sbp_world.proofs.Words.Laws.{host_at, place_held, Decided, bytes_in, decided_by, decided_in, EachMoment}
+use Rattle.sbp_world.proofs.Words.World.{moments_behind, NoneInjected, AreAsked, IsTameOf, KeepsIn, IsCalm, IsLoginFifo, AreOwnIds, HasOwn, OwnedAt, BringPlaces, BasedAt, AreShort, new_world, ready_logins, Run, beginning, WorldState}
 use Rattle.mgmt_agent.specs.declared.operation.Phase.{Phase}
-use Rattle.orb_layout.specs.ManagementOrbs.{management_orb}
-use Rattle.orb_layout.specs.Replies.{Answer}
-use Rattle.packet_store.specs.Kept.{found_sent}
-use Rattle.packet_store.specs.declared.sent.Sent.{Sent}
-use Rattle.rbc_disk.specs.Disk.{Disk}
-use Rattle.sbp_journal.specs.Run.{Moment}
-use Rattle.sbp_laws.specs.Hosts.{host_at}
-use Rattle.sbp_laws.specs.Served.{place_held}
-use Rattle.sbp_laws.specs.Targets.{Decided, bytes_in, decided_by, decided_in}
-use Rattle.sbp_laws.specs.Turns.{EachMoment}
-use Rattle.sbp_target.specs.Receiving.{answer_in}
 use Rattle.sbp_world.proofs.Agents.Management.Holding.{Holding}
 use Rattle.sbp_world.proofs.Agents.Management.Still.{hist}
 use Rattle.sbp_world.proofs.Lists.Beside.{tame_of_before}
@@ -42,20 +29,6 @@ use Rattle.sbp_world.proofs.Lists.OwnCounts.{FewAt}
 use Rattle.sbp_world.proofs.Lists.OwnLogins.{AreOwnOpsAt, OwnKnown, decided_good, ops_everywhere, own_known}
 use Rattle.sbp_world.proofs.Lists.OwnOps.{AreOwnOps, IsOwnOp, StoodThere, brings_held, short_from}
 use Rattle.sbp_world.proofs.Lists.OwnTables.{owned}
-use Rattle.sbp_world.specs.Histories.{moments_behind}
-use Rattle.sbp_world.specs.Hosts.Carrying.{NoneInjected}
-use Rattle.sbp_world.specs.Lists.Contents.{AreAsked}
-use Rattle.sbp_world.specs.Lists.FewLogins.{IsTameOf}
-use Rattle.sbp_world.specs.Lists.KeptOrbs.{KeepsIn}
-use Rattle.sbp_world.specs.Lists.Needs.{IsCalm}
-use Rattle.sbp_world.specs.Lists.OwnLogins.{IsLoginFifo}
-use Rattle.sbp_world.specs.Lists.Owners.{AreOwnIds, HasOwn, OwnedAt}
-use Rattle.sbp_world.specs.Lists.PlaceReads.{BringPlaces}
-use Rattle.sbp_world.specs.Lists.Placings.{BasedAt}
-use Rattle.sbp_world.specs.Lists.Shorts.{AreShort}
-use Rattle.sbp_world.specs.Making.{new_world, ready_logins}
-use Rattle.sbp_world.specs.Runs.{Run, beginning}
-use Rattle.sbp_world.specs.Worlds.{WorldState}
 use Rattle.mgmt_agent.specs.declared.operation.Phase.TheVariants as phases
 use Rattle.sbp_target.specs.declared.purpose.Purpose.TheVariants as purposes
 use Rattle.sbp_world.proofs.Lists.StatusKnown.{each_from}

@@ -1,23 +1,14 @@
 -- What each call of a table of logins makes of its IDs: the logins that stay keep theirs, and one that is entered has the next one, where few were given.
-use Rattle.std.proofs.Common.{arith, ◌≡◌, ◌∙◌, inl, inr, ◌⊎◌, refl, sym, ap, subst, ℕ, zero, suc, ◌+◌, ◌<◌, ◌≤◌, ◌==◌, not, Bool, true, false, cond, List, [], ◌∷◌, map, Option, Some, None, Result, Ok, Err}
-use Rattle.std.proofs.lemmas.Bool.Decides.{nat_tests}
-use Rattle.std.specs.Prelude.{slice_index_or, slice_set}
-use Rattle.std.proofs.Math.ListN.{get_or-map}
-use Rattle.login_table.specs.declared.login.Login.{Login}
-use Rattle.login_table.specs.declared.login.LoginRefusal.{LoginRefusal}
-use Rattle.login_table.specs.declared.login.LoginRefusal.TheVariants.{OtherNode}
-use Rattle.login_table.specs.Requests.{LoginRequest}
-use Rattle.login_table.specs.Table.{Table, back_at, back_step, back_to, enter_at, enter_step, entered, find, fresh_id, held, held_for, is_barred, is_held, is_last, is_live, is_used, leave_at, leave_step, left_for, next_id, one_less, place_at, revived, ticked}
+use Rattle.sbp_world.proofs.Words.Std.{arith, ◌≡◌, ◌∙◌, inl, inr, ◌⊎◌, refl, sym, ap, subst, ℕ, zero, suc, ◌+◌, ◌<◌, ◌≤◌, ◌==◌, not, Bool, true, false, cond, List, [], ◌∷◌, map, Option, Some, None, Result, Ok, Err, nat_tests, slice_index_or, slice_set, get_or-map}
+use Rattle.sbp_world.proofs.Words.Target.{Login, LoginRefusal, OtherNode, LoginRequest, Table, back_at, back_step, back_to, enter_at, enter_step, entered, find, fresh_id, held, held_for, is_held, is_last, is_live, is_used, leave_at, leave_step, left_for, next_id, one_less, place_at, revived, Function, asked_by, decide, decide_function, decide_login, key_at, lacks_key, unit_exists, with_status, function_of}
+use Rattle.sbp_world.proofs.Words.Initiator.{ManagementOrb}
+use Rattle.sbp_world.proofs.Words.World.{AreRising}
+use Rattle.login_table.specs.Table.{is_barred, ticked}
 use Rattle.login_table.proofs.Kept.{left_stood}
 use Rattle.login_table.proofs.Searching.{found}
 use Rattle.mgmt_agent.specs.declared.decision.Outcome.{Outcome}
-use Rattle.mgmt_agent.specs.declared.function.Function.{Function}
 use Rattle.mgmt_agent.specs.declared.function.Function.TheVariants as functions
 use Rattle.mgmt_agent.specs.declared.status.Status.TheVariants as statuses
-use Rattle.mgmt_agent.specs.Decisions.{asked_by, decide, decide_function, decide_login, key_at, lacks_key, unit_exists, with_status}
-use Rattle.mgmt_agent.specs.Statuses.{function_of}
-use Rattle.orb_layout.specs.declared.management.ManagementOrb.{ManagementOrb}
-use Rattle.sbp_world.specs.Lists.FewLogins.{AreRising}
 use Rattle.sbp_world.proofs.Common.{none_is}
 
 -- ---- a login that stays

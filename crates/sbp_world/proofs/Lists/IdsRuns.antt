@@ -1,30 +1,14 @@
 -- In every run with few logins the IDs of the target's logins rise: none is behind the one that was entered last, and that one is no greater than the number of logins
 -- that were entered. So a login that is entered has an ID that none had before.
-use Rattle.std.proofs.Common.{arith, ◌≡◌, ◌∙◌, refl, sym, ap, subst, ℕ, zero, suc, ◌+◌, ◌-◌, ◌<◌, ◌≤◌, nat_eq, Bool, true, false, List, [], ◌++◌, length, replicate, Some, None}
-use Rattle.std.proofs.lemmas.Bool.Decides.{nat_tests}
-use Rattle.async_packet.specs.Labels.{LabelParts}
-use Rattle.async_packet.specs.Packet.{Packet}
+use Rattle.sbp_world.proofs.Words.Std.{arith, ◌≡◌, ◌∙◌, refl, sym, ap, subst, ℕ, zero, suc, ◌+◌, ◌-◌, ◌<◌, ◌≤◌, nat_eq, Bool, true, false, List, [], ◌++◌, length, replicate, Some, None, nat_tests}
+use Rattle.sbp_world.proofs.Words.Wire.{LabelParts, Packet, judging_step, of_response, Sent, found_sent, empty_outbox, Moment}
+use Rattle.sbp_world.proofs.Words.Target.{Login, Table, place_at, Disk, NodeState, scene, answer_in, received, whole}
+use Rattle.sbp_world.proofs.Words.Laws.{first_login, first_table, logins_from}
+use Rattle.sbp_world.proofs.Words.World.{moments_behind, new_world, ready_logins, Run, beginning, Scene, WorldState, AreRising, FewLogins, HasFewIds, entries}
 use Rattle.sbp_world.proofs.Agents.Management.Begins.{first_holds}
 use Rattle.sbp_world.proofs.Agents.Management.Holding.{Holding}
 use Rattle.sbp_world.proofs.Agents.Management.Still.{hist}
-use Rattle.label_table.specs.Layer.{judging_step, of_response}
-use Rattle.login_table.specs.declared.login.Login.{Login}
-use Rattle.login_table.specs.Table.{Table, place_at}
-use Rattle.packet_store.specs.declared.sent.Sent.{Sent}
-use Rattle.packet_store.specs.Kept.{found_sent}
-use Rattle.rbc_disk.specs.Disk.{Disk}
-use Rattle.sbp_journal.specs.Outgoings.{empty_outbox}
-use Rattle.sbp_journal.specs.Run.{Moment}
-use Rattle.sbp_laws.specs.Targets.{first_login, first_table, logins_from}
 use Rattle.sbp_target.specs.declared.purpose.Purpose.TheVariants as purposes
-use Rattle.sbp_target.specs.Nodes.{NodeState, scene}
-use Rattle.sbp_target.specs.Receiving.{answer_in, received}
-use Rattle.sbp_target.specs.Replies.{whole}
-use Rattle.sbp_world.specs.Histories.{moments_behind}
-use Rattle.sbp_world.specs.Making.{new_world, ready_logins}
-use Rattle.sbp_world.specs.Runs.{Run, beginning}
-use Rattle.sbp_world.specs.Worlds.{Scene, WorldState}
-use Rattle.sbp_world.specs.Lists.FewLogins.{AreRising, FewLogins, HasFewIds, entries}
 use Rattle.sbp_world.proofs.Lists.Courses.{EveryPlace, Goes, Keeps, at_between, at_lines}
 use Rattle.sbp_world.proofs.Lists.IdsNoted.{all_last, last_at, more_entries, first_last}
 use Rattle.sbp_world.proofs.Lists.IdsRise.{Decides, IsStill, LivesStood, Rises, decide_makes, decided_more, same_stay, same_stood, still_more}

@@ -1,18 +1,12 @@
 -- A turn keeps of the logins of an initiator's node: a login that has an ID of it has the FIFO of a login, and each live login of its node has one; where few logins were
 -- given, a login that is decided for it has the FIFO of a login, and a reconnect that is decided for it is of such an ID.
-use Rattle.std.proofs.Common.{arith, ◌≡◌, ◌∙◌, inl, inr, ◌⊎◌, refl, sym, ap, subst, ℕ, ◌+◌, ◌<◌, ◌≤◌, true, false, List, length, Some}
+use Rattle.sbp_world.proofs.Words.Std.{arith, ◌≡◌, ◌∙◌, inl, inr, ◌⊎◌, refl, sym, ap, subst, ℕ, ◌+◌, ◌<◌, ◌≤◌, true, false, List, length, Some}
+use Rattle.sbp_world.proofs.Words.Wire.{Moment}
+use Rattle.sbp_world.proofs.Words.Target.{Login, Table, is_live, place_at, function_of, Disk, asked_by}
+use Rattle.sbp_world.proofs.Words.World.{Scene, WorldState, FewLogins, HasFewIds, IsLoginFifo, AreOwnIds, LivesWith, OwnBy}
 use Rattle.sbp_world.proofs.Agents.Management.Holding.{Holding, good_of}
 use Rattle.sbp_world.proofs.Agents.Management.Still.{hist}
-use Rattle.login_table.specs.declared.login.Login.{Login}
-use Rattle.login_table.specs.Table.{Table, is_live, place_at}
 use Rattle.mgmt_agent.specs.declared.function.Function.TheVariants as functions
-use Rattle.mgmt_agent.specs.Statuses.{function_of}
-use Rattle.rbc_disk.specs.Disk.{Disk}
-use Rattle.sbp_journal.specs.Run.{Moment}
-use Rattle.sbp_world.specs.Worlds.{Scene, WorldState}
-use Rattle.sbp_world.specs.Lists.FewLogins.{FewLogins, HasFewIds}
-use Rattle.sbp_world.specs.Lists.OwnLogins.{IsLoginFifo}
-use Rattle.sbp_world.specs.Lists.Owners.{AreOwnIds, LivesWith, OwnBy}
 use Rattle.sbp_world.proofs.Lists.Courses.{Goes}
 use Rattle.sbp_world.proofs.Lists.IdsOwned.{aged_at, own_back, own_on}
 use Rattle.sbp_world.proofs.Lists.IdsRise.{Came, Decides, IsEntered, IsNew, LivesStood, enters, entered_next, leaves, returns}
@@ -22,7 +16,6 @@ use Rattle.sbp_world.proofs.Lists.KeptTurns.{id_is}
 use Rattle.sbp_world.proofs.Lists.LiveRuns.{base_of, goes_turned}
 use Rattle.sbp_world.proofs.Lists.LiveSteps.{id_in}
 use Rattle.sbp_world.proofs.Lists.LiveTurns.{TurnOf, by_clearing, by_own, by_sight, by_target}
-use Rattle.mgmt_agent.specs.Decisions.{asked_by}
 
 -- what is to be known of a decision of the turn
 pub record HelpsIds (start : List Disk) (before : List Moment) (i : ℕ) (w v : WorldState) : Type 0 where

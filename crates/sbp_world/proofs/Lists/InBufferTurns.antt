@@ -1,49 +1,24 @@
 -- Each turn keeps it that the response of a login which its initiator got stands in the buffer of its place, while the target waits for the answer.
-use Rattle.std.proofs.Common.{arith, ◌≡◌, ◌∙◌, ◌⊎◌, inl, inr, refl, sym, ap, subst, ℕ, suc, ◌<◌, ◌≤◌, nat_le, Bool, true, false, List, [], ◌∷◌, ◌++◌, map, length, slice_index_or, Option, Some, None, append_assoc}
-use Rattle.std.proofs.lemmas.Bool.Decides.{nat_tests}
+use Rattle.sbp_world.proofs.Words.Std.{arith, ◌≡◌, ◌∙◌, ◌⊎◌, inl, inr, refl, sym, ap, subst, ℕ, suc, ◌<◌, ◌≤◌, nat_le, Bool, true, false, List, [], ◌∷◌, ◌++◌, map, length, Option, Some, None, append_assoc, nat_tests}
+use Rattle.sbp_world.proofs.Words.Wire.{SerialsCount, Action, Note, Named, Moment, asked, said, Sending, terms}
+use Rattle.sbp_world.proofs.Words.Target.{Disk}
+use Rattle.sbp_world.proofs.Words.Initiator.{start_of, management_orb, Running}
+use Rattle.sbp_world.proofs.Words.Laws.{Host, Underway, host_at, is_management, operation_of, access_at, access_in, id_for, packet_in, receiver_in, management_orb_of, place_bytes, target_at, EachMoment}
+use Rattle.sbp_world.proofs.Words.World.{Core, operation_by, work_in, work_of, AllOfTarget, Scene, WorldState, initiator_at, Stands, write_access, HoldsLogin, AreAsked, orb_in_place, IsLastRead, HasGivenUp, IsHandling, IsManaged, AreReplied, BufferSo, Begins, IsInBuffer, IsResponding, IsUnderway, OperationsLast, WasUnderway, underway_orb}
+use Rattle.std.proofs.Common.{slice_index_or}
 use Rattle.bus_memory.specs.declared.window.Window.TheVariants as windows
-use Rattle.bus_memory.specs.Windows.{start as start_of}
-use Rattle.bus_transactions.specs.Packets.{SerialsCount}
 use Rattle.sbp_world.proofs.Hosts.Hosted.{Cored}
 use Rattle.sbp_world.proofs.Hosts.Remaining.{remains}
 use Rattle.sbp_world.proofs.Hosts.SentMoments.{serials_from}
-use Rattle.sbp_world.specs.Hosts.Core.{Core, operation_by, work_in, work_of}
-use Rattle.sbp_world.specs.Hosts.Sources.{AllOfTarget}
 use Rattle.mgmt_agent.specs.declared.operation.Phase.{Phase}
 use Rattle.mgmt_agent.specs.declared.operation.Phase.TheVariants as phases
 use Rattle.mgmt_agent.specs.Machine.{Machine}
-use Rattle.orb_layout.specs.ManagementOrbs.{management_orb}
-use Rattle.rbc_disk.specs.Disk.{Disk}
-use Rattle.sbp_initiator.specs.declared.purpose.Running.{Running}
-use Rattle.sbp_journal.specs.declared.event.Action.{Action}
 use Rattle.sbp_journal.specs.declared.event.Action.TheVariants as actions
-use Rattle.sbp_journal.specs.declared.note.Note.{Note}
 use Rattle.sbp_journal.specs.declared.note.Note.TheVariants as notes
-use Rattle.sbp_journal.specs.declared.operation.Operation.{Operation as Named}
 use Rattle.sbp_journal.specs.declared.operation.Operation.TheVariants as operations
-use Rattle.sbp_journal.specs.Run.{Moment, asked, said}
-use Rattle.sbp_journal.specs.Transactions.{Sending}
-use Rattle.sbp_journal.specs.Wire.{terms}
-use Rattle.sbp_laws.specs.Hosts.{Host, Underway, host_at, is_management, operation_of}
-use Rattle.sbp_laws.specs.Packets.{access_at, access_in, id_for, packet_in, receiver_in}
-use Rattle.sbp_laws.specs.Served.{management_orb_of, place_bytes}
-use Rattle.sbp_laws.specs.Targets.{target_at}
-use Rattle.sbp_laws.specs.Turns.{EachMoment}
-use Rattle.sbp_world.specs.Worlds.{Scene, WorldState, initiator_at}
-use Rattle.sbp_world.specs.Wire.Wires.{Stands}
 use Rattle.sbp_world.proofs.Wire.Starts.{laws_of}
 use Rattle.sbp_world.proofs.Agents.Management.Holding.{Holding}
 use Rattle.sbp_world.proofs.Agents.Management.Still.{hist}
-use Rattle.sbp_world.specs.Agents.AskedRuns.{write_access}
-use Rattle.sbp_world.specs.Sessions.Holding.{HoldsLogin}
-use Rattle.sbp_world.specs.Lists.Contents.{AreAsked}
-use Rattle.sbp_world.specs.Lists.KeptOrbs.{orb_in_place}
-use Rattle.sbp_world.specs.Lists.LastReads.{IsLastRead}
-use Rattle.sbp_world.specs.Lists.Live.{HasGivenUp}
-use Rattle.sbp_world.specs.Lists.Managing.{IsHandling, IsManaged}
-use Rattle.sbp_world.specs.Lists.Responding.{AreReplied, BufferSo}
-use Rattle.sbp_world.specs.Lists.Stored.{Begins, IsInBuffer, IsResponding}
-use Rattle.sbp_world.specs.Lists.Underway.{IsUnderway, OperationsLast, WasUnderway, underway_orb}
 use Rattle.sbp_world.proofs.Lists.BufferGets.{read_of, replying}
 use Rattle.sbp_world.proofs.Lists.BufferStores.{IsStoring}
 use Rattle.sbp_world.proofs.Lists.ContentManages.{IsSoBefore, so_before}

@@ -1,30 +1,17 @@
 -- An initiator begins its lists in generations that the target has seen: after every line of every run, and behind each delivery of a line that follows.
-use Rattle.std.proofs.Common.{arith, ◌≡◌, ◌∙◌, refl, ap, subst, ℕ, suc, ◌+◌, ◌^◌, ◌<◌, ◌≤◌, true, List, [], ◌∷◌, ◌++◌, map, length, Option}
-use Rattle.std.proofs.lemmas.Bool.{false≢true}
-use Rattle.rbc_disk.specs.Runs.{Told}
-use Rattle.sbp_initiator.specs.Refusals.{is_in_live}
-use Rattle.sbp_initiator.specs.States.{session_of}
-use Rattle.sbp_initiator.specs.declared.state.InitiatorState.{InitiatorState}
-use Rattle.sbp_journal.specs.Run.{Moment, asked, said}
-use Rattle.sbp_journal.specs.Wire.{terms}
-use Rattle.sbp_laws.specs.Hosts.{host_at}
-use Rattle.sbp_session.specs.declared.seat.Seat.{Seat}
+use Rattle.sbp_world.proofs.Words.Std.{arith, ◌≡◌, ◌∙◌, refl, ap, subst, ℕ, suc, ◌+◌, ◌^◌, ◌<◌, ◌≤◌, true, List, [], ◌∷◌, ◌++◌, map, length, Option, false≢true}
+use Rattle.sbp_world.proofs.Words.Wire.{Moment, asked, said, terms}
+use Rattle.sbp_world.proofs.Words.Target.{Told}
+use Rattle.sbp_world.proofs.Words.Initiator.{is_in_live, session_of, InitiatorState, Seat}
+use Rattle.sbp_world.proofs.Words.Laws.{host_at}
+use Rattle.sbp_world.proofs.Words.World.{history_of, moments_behind, AreEntries, Entry, Run, after, beginning, MayAll, after_all, AreLines, Stands, WorldState, begun, initiator_at, Core, session_in, IsRun, more_deliveries, JoinedLaw, is_joined}
 use Rattle.sbp_session.specs.declared.seat.Seat.TheVariants as seats
-use Rattle.sbp_world.specs.Histories.{history_of, moments_behind}
-use Rattle.sbp_world.specs.Runs.{AreEntries, Entry, Run, after, beginning}
-use Rattle.sbp_world.specs.Settling.{MayAll, after_all}
-use Rattle.sbp_world.specs.Wire.Lines.{AreLines}
-use Rattle.sbp_world.specs.Wire.Wires.{Stands}
-use Rattle.sbp_world.specs.Worlds.{WorldState, begun, initiator_at}
 use Rattle.sbp_world.proofs.FitInitiator.Law.{fitting_law as own_fitting_law}
 use Rattle.sbp_world.proofs.FitTarget.Law.{fitting_law}
 use Rattle.sbp_world.proofs.Wire.Runs.{sound_after}
-use Rattle.sbp_world.specs.Hosts.Core.{Core, session_in}
-use Rattle.sbp_world.specs.Hosts.Runs.{IsRun, more_deliveries}
 use Rattle.sbp_world.proofs.Hosts.Carried.{Knows, between_runs, of_runs, stands_between}
 use Rattle.sbp_world.proofs.Hosts.Hosted.{host_law}
 use Rattle.sbp_world.proofs.Hosts.Runs.{are_after, count_after}
-use Rattle.sbp_world.specs.Sessions.Joined.{JoinedLaw, is_joined}
 use Rattle.sbp_world.proofs.Lists.Joins.{Begins, Joins, Starts, first_joins, joins_carried}
 use Rattle.sbp_world.proofs.Lists.Rises.{Rises, rises}
 

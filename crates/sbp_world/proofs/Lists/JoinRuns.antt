@@ -1,17 +1,10 @@
 -- Each list of an initiator began in a generation that the target has seen. So a write of ORB_POINTER that waits in the target's generation is for the
 -- latest list.
-use Rattle.std.proofs.Common.{arith, ◌≡◌, ◌∙◌, refl, sym, ap, subst, ℕ, suc, ◌<◌, ◌≤◌, ◌==◌, nat_eq, nat_lt, Bool, true, false, cond, List, [], ◌∷◌, Some}
-use Rattle.std.proofs.lemmas.Bool.Decides.{nat_tests}
-use Rattle.std.proofs.lemmas.Bool.{false≢true}
-use Rattle.sbp_journal.specs.Run.{Moment, asked, said}
-use Rattle.sbp_journal.specs.Transactions.{Sending}
-use Rattle.sbp_journal.specs.Wire.{terms}
+use Rattle.sbp_world.proofs.Words.Std.{arith, ◌≡◌, ◌∙◌, refl, sym, ap, subst, ℕ, suc, ◌<◌, ◌≤◌, ◌==◌, nat_eq, nat_lt, Bool, true, false, cond, List, [], ◌∷◌, Some, nat_tests, false≢true}
+use Rattle.sbp_world.proofs.Words.Wire.{Moment, asked, said, Sending, terms}
+use Rattle.sbp_world.proofs.Words.Laws.{lists, EachMoment}
+use Rattle.sbp_world.proofs.Words.World.{MayAppend, MayStand, PointersAt, begun_in, pointed_list, IsCalm}
 use Rattle.sbp_journal.specs.declared.note.Note.TheVariants as notes
-use Rattle.sbp_laws.specs.Terms.{lists}
-use Rattle.sbp_laws.specs.Turns.{EachMoment}
-use Rattle.sbp_world.specs.Pointers.Moments.{MayAppend, MayStand}
-use Rattle.sbp_world.specs.Pointers.Pointers.{PointersAt, begun_in, pointed_list}
-use Rattle.sbp_world.specs.Lists.Needs.{IsCalm}
 use Rattle.sbp_world.proofs.Lists.Generations.{not_lower}
 use Rattle.sbp_world.proofs.Lists.Joins.{Begins}
 use Rattle.sbp_world.proofs.Lists.Rises.{Rises}

@@ -1,17 +1,10 @@
 -- What a turn adds to a history: moments behind the place before it, in which no packet is judged that is sent in the turn.
-use Rattle.std.proofs.Common.{arith, ◌≡◌, ◌∙◌, refl, sym, ap, subst, ℕ, ◌<◌, List, [], ◌∷◌, ◌++◌, map, append_assoc}
-use Rattle.bus_transactions.specs.Packets.{SerialsCount}
-use Rattle.bus_transactions.specs.Wire.{Wire}
+use Rattle.sbp_world.proofs.Words.Std.{arith, ◌≡◌, ◌∙◌, refl, sym, ap, subst, ℕ, ◌<◌, List, [], ◌∷◌, ◌++◌, map, append_assoc}
+use Rattle.sbp_world.proofs.Words.Wire.{SerialsCount, Wire, Moment, asked, said, begun_in, terms, Event, Note}
+use Rattle.sbp_world.proofs.Words.World.{Scene, WorldState, Stands, more_deliveries}
 use Rattle.bus_transactions.proofs.PacketLaws.{packets_always}
-use Rattle.sbp_journal.specs.Run.{Moment, asked, said}
-use Rattle.sbp_journal.specs.Wire.{begun_in, terms}
-use Rattle.sbp_journal.specs.declared.event.Event.{Event}
-use Rattle.sbp_journal.specs.declared.note.Note.{Note}
 use Rattle.sbp_journal.specs.declared.note.Note.TheVariants as notes
-use Rattle.sbp_world.specs.Worlds.{Scene, WorldState}
-use Rattle.sbp_world.specs.Wire.Wires.{Stands}
 use Rattle.sbp_world.proofs.Agents.Management.Still.{hist}
-use Rattle.sbp_world.specs.Hosts.Runs.{more_deliveries}
 use Rattle.sbp_world.proofs.Hosts.Remaining.{opened_same as opens_same}
 use Rattle.sbp_world.proofs.Lists.Courses as courses
 use Rattle.sbp_world.proofs.Lists.Courses.{Goes, more_than_one}

@@ -1,31 +1,15 @@
 -- What is kept of the agents of all places, and of the order law, by what the target tells beside its agents, and by the packets that leave.
-use Rattle.std.proofs.Common.{◌≡◌, ◌∙◌, refl, sym, ap, subst, inl, inr, ◌⊎◌, ◌<◌, ◌==◌, ℕ, zero, suc, ◌+◌, Bool, true, false, cond, List, [], ◌∷◌, Option, Some, None}
-use Rattle.std.specs.Prelude.{position, slice_index_or, slice_set}
-use Rattle.std.proofs.lemmas.Option.{none-some}
-use Rattle.async_packet.specs.Labels.{LabelParts}
-use Rattle.command_agent.specs.Machine.{Machine}
-use Rattle.command_agent.specs.Steps.{abort_step}
+use Rattle.sbp_world.proofs.Words.Std.{◌≡◌, ◌∙◌, refl, sym, ap, subst, inl, inr, ◌⊎◌, ◌<◌, ◌==◌, ℕ, zero, suc, ◌+◌, Bool, true, false, cond, List, [], ◌∷◌, Option, Some, None, position, slice_index_or, slice_set, none-some}
+use Rattle.sbp_world.proofs.Words.Wire.{LabelParts, Holder, node_of, back_at, back_step, enter_step, has_login, holder_at, is_free, left_step, or_nobody, place_in, put_at, taken_by, decided_places, managed_places, function_word, Moment, FunctionWord, Outgoing, Side}
+use Rattle.sbp_world.proofs.Words.Target.{Machine, abort_step}
+use Rattle.sbp_world.proofs.Words.Laws.{OrderLaw}
+use Rattle.sbp_world.proofs.Words.World.{asked, posted, sent, sent_all, sent_to, holder, initiator_of, told, WorldState, has_list, orbs}
 use Rattle.agent_laws.proofs.Along.Writes.{keeps_along}
-use Rattle.sbp_bus.specs.declared.places.Holder.{Holder}
-use Rattle.sbp_bus.specs.Generations.{node_of}
-use Rattle.sbp_bus.specs.Places.{back_at, back_step, enter_step, has_login, holder_at, is_free, left_step, or_nobody, place_in, put_at, taken_by}
-use Rattle.sbp_bus.specs.Telling.{decided_places, managed_places}
-use Rattle.sbp_bus.specs.Words.{function_word}
-use Rattle.sbp_journal.specs.Run.{Moment}
-use Rattle.sbp_journal.specs.declared.operation.FunctionWord.{FunctionWord}
 use Rattle.sbp_journal.specs.declared.operation.FunctionWord.TheVariants as functions
-use Rattle.sbp_journal.specs.declared.outbox.Outgoing.{Outgoing}
-use Rattle.sbp_journal.specs.declared.side.Side.{Side}
 use Rattle.sbp_journal.specs.declared.side.Side.TheVariants as sides
-use Rattle.sbp_world.specs.Sending.{asked, posted, sent, sent_all, sent_to}
-use Rattle.sbp_world.specs.Telling.{holder, initiator_of, told}
-use Rattle.sbp_world.specs.Worlds.{WorldState}
 use Rattle.sbp_world.proofs.Agents.Management.Still.{hist}
-use Rattle.sbp_world.specs.Agents.Alike.{has_list}
-use Rattle.sbp_world.specs.Lists.Lists.{orbs}
 use Rattle.sbp_world.proofs.Lists.Told.{AgentAt, AgentOn, along_of}
 use Rattle.sbp_world.proofs.Lists.Running.{order_part}
-use Rattle.sbp_laws.specs.OrderLaw.{OrderLaw}
 use Rattle.sbp_world.proofs.Lists.Passing.{PassLaw}
 use Rattle.sbp_world.proofs.Lists.Stands.{no}
 

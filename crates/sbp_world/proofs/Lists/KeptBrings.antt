@@ -1,32 +1,16 @@
 -- The management ORB that the target decides on is the one in the place of the operation that its initiator has under way.
-use Rattle.std.proofs.Common.{◌≡◌, ◌∙◌, refl, sym, ap, subst, ℕ, ◌<◌, true, List, length, Option, Some, None}
-use Rattle.async_packet.specs.Labels.{LabelParts}
-use Rattle.async_packet.specs.Packet.{Packet}
+use Rattle.sbp_world.proofs.Words.Std.{◌≡◌, ◌∙◌, refl, sym, ap, subst, ℕ, ◌<◌, true, List, length, Option, Some, None}
+use Rattle.sbp_world.proofs.Words.Wire.{LabelParts, Packet, judging_step, of_response, Sent, found_sent, Moment}
+use Rattle.sbp_world.proofs.Words.Target.{Table, Operation, Disk, answer_in}
+use Rattle.sbp_world.proofs.Words.Initiator.{start_of, management_orb, Answer}
+use Rattle.sbp_world.proofs.Words.Laws.{Underway, host_at, is_management, place_bytes, place_held, Decided, bytes_in, decided_by, decided_in}
+use Rattle.sbp_world.proofs.Words.World.{NoneInjected, WorldState, IsInPlace, IsKept, KeepsIn, orb_in_place, IsCalm}
 use Rattle.bus_memory.specs.declared.window.Window.TheVariants as windows
-use Rattle.bus_memory.specs.Windows.{start as start_of}
-use Rattle.sbp_world.specs.Hosts.Carrying.{NoneInjected}
-use Rattle.label_table.specs.Layer.{judging_step, of_response}
-use Rattle.login_table.specs.Table.{Table}
-use Rattle.mgmt_agent.specs.declared.operation.Operation.{Operation}
 use Rattle.mgmt_agent.specs.declared.operation.Phase.{Phase}
 use Rattle.mgmt_agent.specs.declared.operation.Phase.TheVariants as phases
-use Rattle.orb_layout.specs.ManagementOrbs.{management_orb}
-use Rattle.orb_layout.specs.Replies.{Answer}
-use Rattle.packet_store.specs.declared.sent.Sent.{Sent}
-use Rattle.packet_store.specs.Kept.{found_sent}
-use Rattle.rbc_disk.specs.Disk.{Disk}
-use Rattle.sbp_journal.specs.Run.{Moment}
-use Rattle.sbp_laws.specs.Hosts.{Underway, host_at, is_management}
-use Rattle.sbp_laws.specs.Served.{place_bytes, place_held}
-use Rattle.sbp_laws.specs.Targets.{Decided, bytes_in, decided_by, decided_in}
 use Rattle.sbp_target.specs.declared.purpose.Purpose.TheVariants as purposes
-use Rattle.sbp_target.specs.Receiving.{answer_in}
-use Rattle.sbp_world.specs.Worlds.{WorldState}
 use Rattle.sbp_world.proofs.Agents.Management.Holding.{Holding}
 use Rattle.sbp_world.proofs.Agents.Management.Still.{hist}
-use Rattle.sbp_world.specs.Lists.InPlace.{IsInPlace}
-use Rattle.sbp_world.specs.Lists.KeptOrbs.{IsKept, KeepsIn, orb_in_place}
-use Rattle.sbp_world.specs.Lists.Needs.{IsCalm}
 use Rattle.sbp_world.proofs.Lists.KeptTurns.{brings_place, id_is, operation_is, own_is, zero_is}
 use Rattle.sbp_world.proofs.Lists.LiveReplies.{IsDecidedOn}
 use Rattle.sbp_world.proofs.Lists.LiveSteps.{id_in, own_of, zero_of}

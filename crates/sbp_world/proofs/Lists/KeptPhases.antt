@@ -1,13 +1,9 @@
 -- An agent has an ORB read ahead only while a main transaction of it is under way.
-use Rattle.std.proofs.Common.{◌≡◌, refl, true}
-use Rattle.command_agent.specs.declared.phase.Phase.{Phase}
+use Rattle.sbp_world.proofs.Words.Std.{◌≡◌, refl, true}
+use Rattle.sbp_world.proofs.Words.Target.{Phase, is_sent, KnowsAhead, Progress, OrbList}
+use Rattle.sbp_world.proofs.Words.Initiator.{CommandOrb, OrbPointer}
 use Rattle.command_agent.specs.declared.phase.Phase.TheVariants as phases
 use Rattle.command_agent.specs.declared.phase.ReadAhead.TheVariants as aheads
-use Rattle.command_agent.specs.Machine.{is_sent}
-use Rattle.agent_laws.specs.Along.Along.{KnowsAhead, Progress}
-use Rattle.agent_laws.specs.Along.Lists.{OrbList}
-use Rattle.orb_layout.specs.declared.command.CommandOrb.{CommandOrb}
-use Rattle.orb_layout.specs.declared.pointer.OrbPointer.{OrbPointer}
 
 pub kept_idle : {A : Type 0} (orb : CommandOrb) → aheads.Kept orb ≡ aheads.Idle → A
 kept_idle orb e = absurd (let no : aheads.Kept orb ≡ aheads.Idle = e in cc)

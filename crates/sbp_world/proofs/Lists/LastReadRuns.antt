@@ -1,14 +1,9 @@
 -- While a response of the operation that an initiator has under way is on its way, the management ORB that the target read last is the one in the place of that operation, at each
 -- place of a run.
-use Rattle.std.proofs.Common.{subst, ℕ, ◌<◌, List, [], length}
-use Rattle.rbc_disk.specs.Disk.{Disk}
-use Rattle.sbp_journal.specs.Run.{Moment}
-use Rattle.sbp_world.specs.Histories.{moments_behind}
-use Rattle.sbp_world.specs.Making.{ready_logins}
-use Rattle.sbp_world.specs.Runs.{Run, beginning}
-use Rattle.sbp_world.specs.Worlds.{WorldState}
-use Rattle.sbp_world.specs.Lists.LastReads.{IsLastRead}
-use Rattle.sbp_world.specs.Lists.Needs.{IsCalm}
+use Rattle.sbp_world.proofs.Words.Std.{subst, ℕ, ◌<◌, List, [], length}
+use Rattle.sbp_world.proofs.Words.Wire.{Moment}
+use Rattle.sbp_world.proofs.Words.Target.{Disk}
+use Rattle.sbp_world.proofs.Words.World.{moments_behind, ready_logins, Run, beginning, WorldState, IsLastRead, IsCalm}
 use Rattle.sbp_world.proofs.Lists.Courses.{EveryPlace, Keeps, at_between, at_lines}
 use Rattle.sbp_world.proofs.Lists.KeptRuns.{AreKeptAt, kept_everywhere}
 use Rattle.sbp_world.proofs.Lists.LastReadTurns.{read_turn}

@@ -1,53 +1,19 @@
 -- Each turn keeps it that, while a response of the operation under way is on its way, the management ORB that the target read last is the one in the place of that operation.
-use Rattle.std.proofs.Common.{◌≡◌, ◌∙◌, refl, sym, ap, subst, ℕ, suc, ◌<◌, true, false, List, [], ◌∷◌, ◌++◌, map, length, Option, Some, None}
-use Rattle.std.proofs.lemmas.Option.{same_Some}
-use Rattle.async_packet.specs.Labels.{LabelParts}
-use Rattle.async_packet.specs.Packet.{Packet}
+use Rattle.sbp_world.proofs.Words.Std.{◌≡◌, ◌∙◌, refl, sym, ap, subst, ℕ, suc, ◌<◌, true, false, List, [], ◌∷◌, ◌++◌, map, length, Option, Some, None, same_Some}
+use Rattle.sbp_world.proofs.Words.Wire.{LabelParts, Packet, Finding, judging_step, of_response, Sent, found_sent, judged_note, Judged, empty_outbox, Moment, said, terms}
+use Rattle.sbp_world.proofs.Words.Target.{Operation, Disk, Told, Purpose, NodeState, scene, answer_in, received, received_as, with_layer, Whole, whole}
+use Rattle.sbp_world.proofs.Words.Initiator.{start_of, ManagementOrb, management_orb, Payload}
+use Rattle.sbp_world.proofs.Words.Laws.{Underway, host_at, is_management, id_for, place_bytes, target_at}
+use Rattle.sbp_world.proofs.Words.World.{NoneInjected, Core, work_in, work_of, Scene, WorldState, initiator_at, is_written, more_deliveries, HasIn, HasOrb, last_read, read_in, IsInPlace, IsKept, KeepsIn, orb_in_place, IsLastRead, HasGivenUp, IsHandling, IsManaged, IsCalm, OperationsLast, WasUnderway}
 use Rattle.bus_memory.specs.declared.window.Window.TheVariants as windows
-use Rattle.bus_memory.specs.Windows.{start as start_of}
-use Rattle.sbp_world.specs.Hosts.Carrying.{NoneInjected}
-use Rattle.sbp_world.specs.Hosts.Core.{Core, work_in, work_of}
-use Rattle.label_table.specs.Layer.{Finding, judging_step, of_response}
-use Rattle.mgmt_agent.specs.declared.operation.Operation.{Operation}
 use Rattle.mgmt_agent.specs.declared.operation.Phase.{Phase}
 use Rattle.mgmt_agent.specs.declared.operation.Phase.TheVariants as phases
 use Rattle.mgmt_agent.specs.Machine.{Machine}
-use Rattle.orb_layout.specs.declared.management.ManagementOrb.{ManagementOrb}
-use Rattle.orb_layout.specs.ManagementOrbs.{management_orb}
-use Rattle.orb_layout.specs.Replies.{Payload}
-use Rattle.packet_store.specs.declared.sent.Sent.{Sent}
-use Rattle.packet_store.specs.Kept.{found_sent}
-use Rattle.rbc_disk.specs.Disk.{Disk}
-use Rattle.rbc_disk.specs.Runs.{Told}
-use Rattle.sbp_bus.specs.Packets.{judged_note}
-use Rattle.sbp_journal.specs.declared.cause.Judged.{Judged}
 use Rattle.sbp_journal.specs.declared.cause.Judged.TheVariants as judgements
 use Rattle.sbp_journal.specs.declared.note.Note.TheVariants as notes
-use Rattle.sbp_journal.specs.Outgoings.{empty_outbox}
-use Rattle.sbp_journal.specs.Run.{Moment, said}
-use Rattle.sbp_journal.specs.Wire.{terms}
-use Rattle.sbp_laws.specs.Hosts.{Underway, host_at, is_management}
-use Rattle.sbp_laws.specs.Packets.{id_for}
-use Rattle.sbp_laws.specs.Served.{place_bytes}
-use Rattle.sbp_laws.specs.Targets.{target_at}
-use Rattle.sbp_target.specs.declared.purpose.Purpose.{Purpose}
 use Rattle.sbp_target.specs.declared.purpose.Purpose.TheVariants as purposes
-use Rattle.sbp_target.specs.Nodes.{NodeState, scene}
-use Rattle.sbp_target.specs.Receiving.{answer_in, received, received_as, with_layer}
-use Rattle.sbp_target.specs.Replies.{Whole, whole}
-use Rattle.sbp_world.specs.Worlds.{Scene, WorldState, initiator_at}
 use Rattle.sbp_world.proofs.Agents.Management.Holding.{Holding}
 use Rattle.sbp_world.proofs.Agents.Management.Still.{hist}
-use Rattle.sbp_world.specs.Sessions.Writing.{is_written}
-use Rattle.sbp_world.specs.Hosts.Runs.{more_deliveries}
-use Rattle.sbp_world.specs.Lists.CarriedOrbs.{HasIn, HasOrb, last_read, read_in}
-use Rattle.sbp_world.specs.Lists.InPlace.{IsInPlace}
-use Rattle.sbp_world.specs.Lists.KeptOrbs.{IsKept, KeepsIn, orb_in_place}
-use Rattle.sbp_world.specs.Lists.LastReads.{IsLastRead}
-use Rattle.sbp_world.specs.Lists.Live.{HasGivenUp}
-use Rattle.sbp_world.specs.Lists.Managing.{IsHandling, IsManaged}
-use Rattle.sbp_world.specs.Lists.Needs.{IsCalm}
-use Rattle.sbp_world.specs.Lists.Underway.{OperationsLast, WasUnderway}
 use Rattle.sbp_world.proofs.Lists.Courses.{Goes, by_delivery, by_end, by_line, by_start}
 use Rattle.sbp_world.proofs.Lists.Judging.{goes_next}
 use Rattle.sbp_world.proofs.Lists.KeptTurns.{brings_place, id_is, operation_is, own_is, was_underway, zero_is}

@@ -1,23 +1,14 @@
 -- What was read last as a management ORB over moments: it stays while the operation of the target does not read its ORB; and a reply that brings it is it.
-use Rattle.std.proofs.Common.{◌≡◌, ◌∙◌, refl, sym, ap, ℕ, Bool, true, false, List, [], ◌∷◌, ◌++◌, map, Option, Some, None}
-use Rattle.mgmt_agent.specs.declared.operation.Operation.{Operation}
+use Rattle.sbp_world.proofs.Words.Std.{◌≡◌, ◌∙◌, refl, sym, ap, ℕ, Bool, true, false, List, [], ◌∷◌, ◌++◌, map, Option, Some, None}
+use Rattle.sbp_world.proofs.Words.Wire.{Event, Note, Moment, asked, said, Part, Sending, Transaction, between, part_of, response, Held, Terms, opened, terms}
+use Rattle.sbp_world.proofs.Words.Target.{Operation, Disk}
+use Rattle.sbp_world.proofs.Words.Initiator.{ManagementOrb, Answer}
+use Rattle.sbp_world.proofs.Words.Laws.{answer_in, answered_as, answered_at, answered_in, closed_by, packet_at, packet_in, receiver_in, is_serial, target_at}
+use Rattle.sbp_world.proofs.Words.World.{Office, last_read, read_by, read_if, read_in, AllOf}
 use Rattle.mgmt_agent.specs.Machine.{Machine}
-use Rattle.orb_layout.specs.declared.management.ManagementOrb.{ManagementOrb}
-use Rattle.orb_layout.specs.Replies.{Answer}
-use Rattle.rbc_disk.specs.Disk.{Disk}
-use Rattle.sbp_journal.specs.declared.event.Event.{Event}
 use Rattle.sbp_journal.specs.declared.event.Event.TheVariants as events
-use Rattle.sbp_journal.specs.declared.note.Note.{Note}
 use Rattle.sbp_journal.specs.declared.note.Note.TheVariants as notes
-use Rattle.sbp_journal.specs.Run.{Moment, asked, said}
-use Rattle.sbp_journal.specs.Transactions.{Part, Sending, Transaction, between, part_of, response}
-use Rattle.sbp_journal.specs.Wire.{Held, Terms, opened, terms}
-use Rattle.sbp_laws.specs.Packets.{answer_in, answered_as, answered_at, answered_in, closed_by, packet_at, packet_in, receiver_in}
-use Rattle.sbp_laws.specs.Targets.{is_serial, target_at}
-use Rattle.sbp_world.specs.Agents.Management.Offices.{Office}
 use Rattle.sbp_world.proofs.Agents.Management.Firsts.{opened_office}
-use Rattle.sbp_world.specs.Lists.CarriedOrbs.{last_read, read_by, read_if, read_in}
-use Rattle.sbp_world.specs.Lists.Opened.{AllOf}
 use Rattle.sbp_world.proofs.Lists.Gots.{Next, next, next_line, same_still}
 use Rattle.sbp_world.proofs.Lists.LiveLeads.{line_manager}
 use Rattle.sbp_world.proofs.Lists.LiveTold.{is_behind, is_own_packet}

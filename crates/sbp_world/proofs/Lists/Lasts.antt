@@ -1,25 +1,12 @@
 -- While an initiator is ahead of the target, that its open list is the latest one is all that is needed of it: in every run its ORBs stand in their slots.
 -- Of a list whose write waits nothing of this kind is needed.
-use Rattle.std.proofs.Common.{arith, ◌≡◌, refl, subst, ℕ, suc, ◌<◌, ◌≤◌, List, [], ◌∷◌, ◌++◌, map, length, Option, Some, None}
-use Rattle.rbc_disk.specs.Runs.{Told}
-use Rattle.sbp_journal.specs.Run.{Moment, asked, said}
-use Rattle.sbp_journal.specs.Transactions.{Sending}
-use Rattle.sbp_journal.specs.Wire.{terms}
-use Rattle.sbp_laws.specs.Lists.{linked, taken_at}
-use Rattle.sbp_laws.specs.Terms.{appends, ends, lists}
-use Rattle.sbp_world.specs.Histories.{history_of}
-use Rattle.sbp_world.specs.Runs.{Run, after, beginning}
-use Rattle.sbp_world.specs.Settling.{MayAll, after_all}
-use Rattle.sbp_world.specs.Worlds.{Scene, WorldState, begun}
-use Rattle.sbp_world.specs.Hosts.Runs.{IsRun, more_deliveries}
+use Rattle.sbp_world.proofs.Words.Std.{arith, ◌≡◌, refl, subst, ℕ, suc, ◌<◌, ◌≤◌, List, [], ◌∷◌, ◌++◌, map, length, Option, Some, None}
+use Rattle.sbp_world.proofs.Words.Wire.{Moment, asked, said, Sending, terms}
+use Rattle.sbp_world.proofs.Words.Target.{Told}
+use Rattle.sbp_world.proofs.Words.Laws.{linked, taken_at, appends, ends, lists}
+use Rattle.sbp_world.proofs.Words.World.{history_of, Run, after, beginning, MayAll, after_all, Scene, WorldState, begun, IsRun, more_deliveries, MomentsLaw, PointersLaw, pointed_list, JoinedLaw, AreLast, LastLaw, AreNamed, IsCalm, ArePlaced, AreWaiting, IsPlaced, IsStanding, ListedLaw}
 use Rattle.sbp_world.proofs.Hosts.Lasting.{lasting_law}
 use Rattle.sbp_world.proofs.Hosts.Runs.{count_after, count_between}
-use Rattle.sbp_world.specs.Pointers.Pointers.{MomentsLaw, PointersLaw, pointed_list}
-use Rattle.sbp_world.specs.Sessions.Joined.{JoinedLaw}
-use Rattle.sbp_world.specs.Lists.Lasts.{AreLast, LastLaw}
-use Rattle.sbp_world.specs.Lists.Names.{AreNamed}
-use Rattle.sbp_world.specs.Lists.Needs.{IsCalm}
-use Rattle.sbp_world.specs.Lists.Places.{ArePlaced, AreWaiting, IsPlaced, IsStanding, ListedLaw}
 use Rattle.sbp_world.proofs.Lists.JoinLaws.{begins_after, begins_between, rises_after, rises_between}
 use Rattle.sbp_world.proofs.Lists.JoinRuns.{waits_latest}
 use Rattle.sbp_world.proofs.Lists.Naming.{names_law}

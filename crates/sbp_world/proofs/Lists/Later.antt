@@ -1,9 +1,8 @@
 -- What was open at an agent by a history was so by the history that goes on from it.
-use Rattle.std.proofs.Common.{◌≡◌, ◌∙◌, refl, ap, ℕ, List, [], ◌∷◌, ◌++◌, Option, Some}
+use Rattle.sbp_world.proofs.Words.Std.{◌≡◌, ◌∙◌, refl, ap, ℕ, List, [], ◌∷◌, ◌++◌, Option, Some}
+use Rattle.sbp_world.proofs.Words.Wire.{Moment, said}
+use Rattle.sbp_world.proofs.Words.World.{WasHad, WasOpened}
 use Rattle.sbp_journal.specs.declared.note.Note.TheVariants as notes
-use Rattle.sbp_journal.specs.Run.{Moment, said}
-use Rattle.sbp_world.specs.Lists.CutLists.{WasHad}
-use Rattle.sbp_world.specs.Lists.Opens.{WasOpened}
 use Rattle.sbp_world.proofs.Common.{moments_joined}
 
 unfoldable pub was_later : (more past now : List Moment) (i place : ℕ) (list : Option ℕ) → more ++ past ≡ now → WasOpened past i place list → WasOpened now i place list

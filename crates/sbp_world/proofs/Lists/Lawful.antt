@@ -1,21 +1,10 @@
 -- In every run in which no initiator injected packets, or few logins were given, the order law, the execution law and the status law hold.
-use Rattle.std.proofs.Common.{◌≡◌, sym, subst, ◌<◌, ◌≤◌, ℕ, List, length}
-use Rattle.sbp_journal.specs.Run.{Moment}
-use Rattle.sbp_laws.specs.Lawful.{injectors}
-use Rattle.sbp_laws.specs.OnLists.{LawfulOnLists}
-use Rattle.sbp_laws.specs.Turns.{EachMoment}
-use Rattle.sbp_world.specs.Histories.{history_of}
-use Rattle.sbp_world.specs.Runs.{Run, after, beginning}
-use Rattle.sbp_world.specs.Hosts.Runs.{IsRun}
+use Rattle.sbp_world.proofs.Words.Std.{◌≡◌, sym, subst, ◌<◌, ◌≤◌, ℕ, List, length}
+use Rattle.sbp_world.proofs.Words.Wire.{Moment}
+use Rattle.sbp_world.proofs.Words.Laws.{injectors, LawfulOnLists, EachMoment}
+use Rattle.sbp_world.proofs.Words.World.{history_of, Run, after, beginning, IsRun, AreHere, OpenListsLaw, Under, WhereTameOrFew, LiveLaw, OpenBefore, LogoutsLaw, IsTameOrFew, AtLogin, ListsLaw}
 use Rattle.sbp_world.proofs.Hosts.Runs.{count_after}
 use Rattle.sbp_world.proofs.Hosts.Statuses.Ranges.{run_inside}
-use Rattle.sbp_world.specs.Lists.Closes.{AreHere, OpenListsLaw, Under, WhereTameOrFew}
-use Rattle.sbp_world.specs.Lists.Live.{LiveLaw}
-use Rattle.sbp_world.specs.Lists.Needs.{OpenBefore}
-use Rattle.sbp_world.specs.Lists.Opened.{LogoutsLaw}
-use Rattle.sbp_world.specs.Lists.FewLogins.{IsTameOrFew}
-use Rattle.sbp_world.specs.Lists.StatusRuns.{AtLogin}
-use Rattle.sbp_world.specs.Lists.LawfulLists.{ListsLaw}
 use Rattle.sbp_world.proofs.Lists.Executes.{execution_run_law}
 use Rattle.sbp_world.proofs.Lists.ListsProved.{open_before, open_lists, sent_so, statuses}
 use Rattle.sbp_world.proofs.Lists.LiveGiven.{ShortLaw}

@@ -1,36 +1,14 @@
 -- At each place of a run an agent that reads an ORB of an initiator that injected no packets reads the one that was prepared last in its slot, of the latest list of this initiator.
-use Rattle.std.proofs.Common.{arith, ◌≡◌, ◌∙◌, inl, inr, refl, sym, ap, subst, ◌<◌, ◌≤◌, ℕ, suc, true, false, List, Some}
-use Rattle.std.proofs.lemmas.Option.{same_Some}
-use Rattle.agent_laws.specs.Along.Steps.{IsOfList, number_behind}
-use Rattle.agent_laws.specs.Along.Requests.{ahead_under, main_ask, main_under}
+use Rattle.sbp_world.proofs.Words.Std.{arith, ◌≡◌, ◌∙◌, inl, inr, refl, sym, ap, subst, ◌<◌, ◌≤◌, ℕ, suc, true, false, List, Some, same_Some}
+use Rattle.sbp_world.proofs.Words.Wire.{Access, Moment, terms}
+use Rattle.sbp_world.proofs.Words.Target.{IsOfList, number_behind, ahead_under, main_ask, main_under, Phase, Which, Ahead, Main, Machine, aligned, is_ahead, Disk}
+use Rattle.sbp_world.proofs.Words.Initiator.{Read, At, CommandOrb}
+use Rattle.sbp_world.proofs.Words.Laws.{fifo_in, address_of, linked, slot_at, ends, receiver_in, Target, agent_at, term_login, over, target_at}
+use Rattle.sbp_world.proofs.Words.World.{Alike, IsAccessFor, serial_of, WorldState, AreAlong, GoesAlong, orbs, IsCalm, IsOpenAt, OpenLists, initiator_in, machine_at, AreLed, IsLedTo}
 use Rattle.agent_laws.proofs.Along.Writes.{keeps_along}
-use Rattle.sbp_world.specs.Agents.Alike.{Alike}
-use Rattle.sbp_world.specs.Agents.AskedRuns.{IsAccessFor, serial_of}
 use Rattle.sbp_world.proofs.Agents.Management.Holding.{Holding}
 use Rattle.sbp_world.proofs.Agents.Management.Still.{hist}
-use Rattle.command_agent.specs.declared.phase.Phase.{Phase}
 use Rattle.command_agent.specs.declared.phase.Phase.TheVariants as phases
-use Rattle.command_agent.specs.declared.step.Which.{Which}
-use Rattle.command_agent.specs.declared.step.Which.TheVariants.{Ahead, Main}
-use Rattle.command_agent.specs.Machine.{Machine, aligned, is_ahead}
-use Rattle.orb_layout.specs.declared.ask.Ask.TheVariants.{Read}
-use Rattle.orb_layout.specs.declared.pointer.OrbPointer.TheVariants.{At}
-use Rattle.orb_layout.specs.declared.command.CommandOrb.{CommandOrb}
-use Rattle.rbc_disk.specs.Disk.{Disk}
-use Rattle.sbp_journal.specs.Addresses.{Access}
-use Rattle.sbp_journal.specs.Run.{Moment}
-use Rattle.sbp_journal.specs.Wire.{terms}
-use Rattle.sbp_laws.specs.Agents.{fifo_in}
-use Rattle.sbp_laws.specs.CarriedBytes.{address_of}
-use Rattle.sbp_laws.specs.Lists.{linked, slot_at}
-use Rattle.sbp_laws.specs.Terms.{ends}
-use Rattle.sbp_laws.specs.Packets.{receiver_in}
-use Rattle.sbp_laws.specs.Targets.{Target, agent_at, login_at as term_login, over, target_at}
-use Rattle.sbp_world.specs.Worlds.{WorldState}
-use Rattle.sbp_world.specs.Lists.Along.{AreAlong, GoesAlong}
-use Rattle.sbp_world.specs.Lists.Lists.{orbs}
-use Rattle.sbp_world.specs.Lists.Needs.{IsCalm, IsOpenAt, OpenLists, initiator_in, machine_at}
-use Rattle.sbp_world.specs.Lists.OrbNames.{AreLed, IsLedTo}
 use Rattle.sbp_world.proofs.Lists.Bringing.{read_prepared}
 use Rattle.sbp_world.proofs.Lists.Brought.{main_number, number_of}
 use Rattle.sbp_world.proofs.Lists.OrbReading.{under_way}

@@ -1,44 +1,14 @@
 -- As the target gets a packet, in a run in which no initiator injected packets, or few logins were given, each agent that reads an ORB of an initiator that injected none reads the
 -- one prepared last in its slot, of the latest list of this initiator; so the response brings it the ORB that the slot had then.
-use Rattle.std.proofs.Common.{arith, ◌≡◌, ◌∙◌, refl, sym, ap, subst, ◌<◌, ◌≤◌, ◌+◌, ℕ, suc, Bool, true, false, List, [], ◌∷◌, ◌++◌, map, length, Option, Some, Ok}
-use Rattle.agent_laws.specs.Along.Requests.{main_ask}
-use Rattle.sbp_world.specs.Agents.AskedRuns.{AreAskedAt, HasAsked, serial_of}
+use Rattle.sbp_world.proofs.Words.Std.{arith, ◌≡◌, ◌∙◌, refl, sym, ap, subst, ◌<◌, ◌≤◌, ◌+◌, ℕ, suc, Bool, true, false, List, [], ◌∷◌, ◌++◌, map, length, Option, Some, Ok}
+use Rattle.sbp_world.proofs.Words.Wire.{Moment, asked, said, Sending, terms, Event, Note}
+use Rattle.sbp_world.proofs.Words.Target.{main_ask, Which, Ahead, Main, Machine, aligned, is_ahead, writes_status, Disk, Told}
+use Rattle.sbp_world.proofs.Words.Initiator.{Ask, Read, At, command_orb, payload_of}
+use Rattle.sbp_world.proofs.Words.Laws.{fifo_in, answer_in, answered_at, packet_at, receiver_in, Target, agent_at, initiator_at, is_serial, login_at, over, target_at, EachMoment}
+use Rattle.sbp_world.proofs.Words.World.{AreAskedAt, HasAsked, serial_of, more_deliveries, history_of, ready_logins, Run, after, beginning, MayAll, after_all, Scene, WorldState, begun, IsRun, AreAlong, OpenListsLaw, IsCalm, OpenBefore, OpenLists, OpensLaw, AreLed, IsJustBrought, IsLedTo, LedAsGot, IsTameOrFew}
 use Rattle.sbp_world.proofs.Agents.Management.Still.{hist}
 use Rattle.command_agent.specs.declared.phase.Phase.TheVariants as phases
-use Rattle.command_agent.specs.declared.step.Which.{Which}
-use Rattle.command_agent.specs.declared.step.Which.TheVariants.{Ahead, Main}
-use Rattle.command_agent.specs.Machine.{Machine, aligned, is_ahead}
-use Rattle.command_agent.specs.Tasks.{writes_status}
-use Rattle.sbp_world.specs.Hosts.Runs.{more_deliveries}
-use Rattle.orb_layout.specs.declared.ask.Ask.{Ask}
-use Rattle.orb_layout.specs.declared.ask.Ask.TheVariants.{Read}
-use Rattle.orb_layout.specs.declared.pointer.OrbPointer.TheVariants.{At}
-use Rattle.orb_layout.specs.CommandOrbs.{command_orb}
-use Rattle.orb_layout.specs.Replies.{payload_of}
-use Rattle.rbc_disk.specs.Disk.{Disk}
-use Rattle.rbc_disk.specs.Runs.{Told}
-use Rattle.sbp_journal.specs.Run.{Moment, asked, said}
-use Rattle.sbp_journal.specs.Transactions.{Sending}
-use Rattle.sbp_journal.specs.Wire.{terms}
-use Rattle.sbp_journal.specs.declared.event.Event.{Event}
-use Rattle.sbp_journal.specs.declared.note.Note.{Note}
 use Rattle.sbp_journal.specs.declared.note.Note.TheVariants as notes
-use Rattle.sbp_laws.specs.Agents.{fifo_in}
-use Rattle.sbp_laws.specs.Packets.{answer_in, answered_at, packet_at, receiver_in}
-use Rattle.sbp_laws.specs.Targets.{Target, agent_at, initiator_at, is_serial, login_at, over, target_at}
-use Rattle.sbp_laws.specs.Turns.{EachMoment}
-use Rattle.sbp_world.specs.Histories.{history_of}
-use Rattle.sbp_world.specs.Making.{ready_logins}
-use Rattle.sbp_world.specs.Runs.{Run, after, beginning}
-use Rattle.sbp_world.specs.Settling.{MayAll, after_all}
-use Rattle.sbp_world.specs.Worlds.{Scene, WorldState, begun}
-use Rattle.sbp_world.specs.Hosts.Runs.{IsRun}
-use Rattle.sbp_world.specs.Lists.Along.{AreAlong}
-use Rattle.sbp_world.specs.Lists.Closes.{OpenListsLaw}
-use Rattle.sbp_world.specs.Lists.Needs.{IsCalm, OpenBefore, OpenLists}
-use Rattle.sbp_world.specs.Lists.Opens.{OpensLaw}
-use Rattle.sbp_world.specs.Lists.OrbNames.{AreLed, IsJustBrought, IsLedTo, LedAsGot}
-use Rattle.sbp_world.specs.Lists.FewLogins.{IsTameOrFew}
 use Rattle.sbp_world.proofs.Lists.Calm.{asked_calm}
 use Rattle.sbp_world.proofs.Lists.Courses.{EveryPlace, Keeps, at_between, at_lines, more_than_one}
 use Rattle.sbp_world.proofs.Lists.Gots.{Next, next, next_line, same_still}

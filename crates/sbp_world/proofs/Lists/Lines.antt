@@ -1,60 +1,25 @@
 -- Each line of a world keeps what is known of the agents of the target.
-use Rattle.std.proofs.Common.{arith, ◌≡◌, ◌∙◌, refl, sym, ap, subst, ℕ, suc, ◌+◌, ◌-◌, ◌||◌, ◌==◌, not, nat_lt, Bool, true, false, cond, List, ◌∷◌, length, Option, Some, None, Result, Ok, Err}
-use Rattle.std.specs.Prelude.{slice_index_or, slice_set}
-use Rattle.std.proofs.lemmas.Bool.Decides.{nat_tests}
-use Rattle.label_table.specs.declared.reply.Stale.{Stale}
-use Rattle.label_table.specs.Layer.{Layer, expiring_step}
-use Rattle.packet_store.specs.declared.sent.Sent.{Sent}
-use Rattle.packet_store.specs.Kept.{found_sent, is_flying}
-use Rattle.packet_store.specs.Stored.{deliver_step}
-use Rattle.rbc_disk.specs.Runs.{Told}
-use Rattle.sbp_bus.specs.declared.requests.Request.{Request}
-use Rattle.sbp_bus.specs.Generations.{id_of}
-use Rattle.sbp_bus.specs.Packets.{judged_note, no_node, no_packet}
-use Rattle.sbp_initiator.specs.Acting.{act_step}
-use Rattle.sbp_initiator.specs.declared.state.InitiatorState.{InitiatorState}
-use Rattle.sbp_initiator.specs.Effects.{Turn}
-use Rattle.sbp_initiator.specs.Initiators.{new_state}
-use Rattle.sbp_initiator.specs.Receiving.{expire_step, receive_step}
-use Rattle.sbp_initiator.specs.Seeing.{see_step}
-use Rattle.sbp_journal.specs.declared.event.Action.{Action}
-use Rattle.sbp_journal.specs.declared.note.Note.{Note}
+use Rattle.sbp_world.proofs.Words.Std.{arith, ◌≡◌, ◌∙◌, refl, sym, ap, subst, ℕ, suc, ◌+◌, ◌-◌, ◌||◌, ◌==◌, not, nat_lt, Bool, true, false, cond, List, ◌∷◌, length, Option, Some, None, Result, Ok, Err, slice_index_or, slice_set, nat_tests}
+use Rattle.sbp_world.proofs.Words.Wire.{Stale, Layer, expiring_step, Sent, found_sent, is_flying, deliver_step, Request, id_of, judged_note, no_node, no_packet, Action, Note, Judged, OutboxState, empty_outbox, Moment}
+use Rattle.sbp_world.proofs.Words.Target.{Told, alone, sees, ticks, Purpose, NodeState, TargetScene, desk_at, scene, expired, expired_in, received, with_key, Whole}
+use Rattle.sbp_world.proofs.Words.Initiator.{act_step, InitiatorState, Turn, new_state, expire_step, receive_step, see_step, as_sides}
+use Rattle.sbp_world.proofs.Words.Laws.{action_notes, OrderLaw}
+use Rattle.sbp_world.proofs.Words.World.{marked, whole_of, with_initiators, handed_out, acted, acted_by, keyed, no_unit, weight_in, handed_all, initiator_learns, reset_line, see_line, target_learns, target_sees, target_ticks, tick_line, told_seen, with_seen, at_initiator, delivered_if, expires, first_told, initiator_expires, inject_line, injected, injected_to, is_in_flight, lose_line, lost, may_repeat, refused, target_expired, target_left, timed_out, timeout_line, timeout_of, sent_all, told_all, Scene, WorldState, initiator_at, with_initiator, with_note, with_target, AreRows, machine_at}
 use Rattle.sbp_journal.specs.declared.note.Note.TheVariants as notes
-use Rattle.sbp_journal.specs.declared.cause.Judged.{Judged}
-use Rattle.sbp_journal.specs.Outgoings.{OutboxState, empty_outbox}
-use Rattle.sbp_journal.specs.Run.{Moment}
-use Rattle.sbp_laws.specs.Actions.{action_notes}
-use Rattle.sbp_target.specs.Calls.{alone, sees, ticks}
-use Rattle.sbp_target.specs.declared.purpose.Purpose.{Purpose}
-use Rattle.sbp_target.specs.Nodes.{NodeState, Scene as TargetScene, desk_at, scene}
-use Rattle.sbp_target.specs.Receiving.{expired, expired_in, received, with_key}
-use Rattle.sbp_target.specs.Replies.{Whole}
-use Rattle.sbp_world.specs.Delivering.{marked, whole_of, with_initiators}
-use Rattle.sbp_world.specs.Handing.{handed_out}
-use Rattle.sbp_world.specs.Lines.{acted, acted_by, keyed, no_unit, weight_in}
-use Rattle.sbp_world.specs.Nodes.{handed_all, initiator_learns, reset_line, see_line, target_learns, target_sees, target_ticks, tick_line, told_seen, with_seen}
 use Rattle.sbp_world.specs.Nodes as nodes
-use Rattle.sbp_world.specs.Packets.{at_initiator, delivered_if, expires, first_told, initiator_expires, inject_line, injected, injected_to, is_in_flight, lose_line, lost, may_repeat, refused, target_expired, target_left, timed_out, timeout_line, timeout_of}
 use Rattle.sbp_world.specs.Packets as packets
-use Rattle.sbp_world.specs.Sending.{sent_all}
-use Rattle.sbp_world.specs.Telling.{told_all}
-use Rattle.sbp_world.specs.Worlds.{Scene, WorldState, initiator_at, with_initiator, with_note, with_target}
 use Rattle.sbp_world.proofs.Wire.Nodes.{handed_alike, marked_alike}
 use Rattle.sbp_world.proofs.InitiatorForms as own
 use Rattle.sbp_world.proofs.Formed.{AreOwn}
 use Rattle.sbp_world.proofs.Agents.Management.Still.{hist}
-use Rattle.sbp_world.specs.Hosts.Fits.{AreRows}
 use Rattle.sbp_world.proofs.Hosts.OrbRuns.{goes}
 use Rattle.sbp_world.proofs.Hosts.OrbTells as tell
 use Rattle.sbp_world.proofs.Hosts.OrbTerms.{AreStill}
 use Rattle.sbp_world.proofs.Hosts.Telling.{action_law}
-use Rattle.sbp_initiator.specs.Histories.Ends.{own as as_sides}
-use Rattle.sbp_world.specs.Lists.Needs.{machine_at}
 use Rattle.sbp_world.proofs.Lists.Adds.{Stays, adds_note, all_stay, posted_stays, stays_note, stays_own, stays_then}
 use Rattle.sbp_world.proofs.Lists.Appends.{action_good}
 use Rattle.sbp_world.proofs.Lists.Cuts as cuts
 use Rattle.sbp_world.proofs.Lists.Deliveries.{delivery_kept, lapse_kept}
-use Rattle.sbp_laws.specs.OrderLaw.{OrderLaw}
 use Rattle.sbp_world.proofs.Lists.Kept.{keeps}
 use Rattle.sbp_world.proofs.Lists.Kept.{Kept, all_kept, as_kept}
 use Rattle.sbp_world.proofs.Lists.Looks.{Looks}

@@ -1,10 +1,6 @@
 -- The laws of lists of every run with units that is tame or has few logins.
-use Rattle.std.proofs.Common.{◌≡◌, ℕ, ◌<◌, ◌≤◌, length}
-use Rattle.sbp_world.specs.Histories.{history_of}
-use Rattle.sbp_world.specs.Hosts.Runs.{IsRun}
-use Rattle.sbp_world.specs.Lists.FewLogins.{IsTameOrFew}
-use Rattle.sbp_world.specs.Lists.ListLaws.{HasListLaws}
-use Rattle.sbp_world.specs.Runs.{Run}
+use Rattle.sbp_world.proofs.Words.Std.{◌≡◌, ℕ, ◌<◌, ◌≤◌, length}
+use Rattle.sbp_world.proofs.Words.World.{history_of, IsRun, IsTameOrFew, HasListLaws, Run}
 use Rattle.sbp_world.proofs.Lists.Clauses.{answers_hold, brought_law, carried_law, lengths_law, lists_law}
 
 pub list_laws : (line : ℕ) (run : Run) → IsRun run → 0 < run.units → run.units ≤ 4 → length run.start.disks ≡ run.units → IsTameOrFew (history_of line run) → HasListLaws run.initiators run.start.disks (history_of line run)

@@ -1,22 +1,13 @@
 -- The lists of the run terms are laid out, and grow.
-use Rattle.std.proofs.Common.{◌≡◌, ◌∙◌, refl, sym, ap, subst, ◌<◌, ◌==◌, ◌&&◌, ℕ, not, nat_lt, Bool, true, false, cond, List, [], ◌∷◌, Option, arith}
-use Rattle.std.proofs.lemmas.Bool.Decides.{nat_tests}
+use Rattle.sbp_world.proofs.Words.Std.{◌≡◌, ◌∙◌, refl, sym, ap, subst, ◌<◌, ◌==◌, ◌&&◌, ℕ, not, nat_lt, Bool, true, false, cond, List, [], ◌∷◌, Option, arith, nat_tests}
+use Rattle.sbp_world.proofs.Words.Wire.{Moment, Cmd}
+use Rattle.sbp_world.proofs.Words.Target.{reads_table, unread_buffer, Grows, IsLaid}
+use Rattle.sbp_world.proofs.Words.Initiator.{start, CommandOrb, data_size, data_start, has_table, single}
+use Rattle.sbp_world.proofs.Words.Laws.{laid_out, command_at, linked, slot_at, appends}
+use Rattle.sbp_world.proofs.Words.World.{Lasts, GrowingLaw, IsBufferOf, IsOrbOf, orbs}
 use Rattle.bus_memory.specs.declared.window.Window.TheVariants as windows
-use Rattle.bus_memory.specs.Windows.{start}
-use Rattle.command_agent.specs.Checks.{reads_table}
-use Rattle.command_agent.specs.Steps.{unread_buffer}
-use Rattle.orb_layout.specs.declared.command.CommandOrb.{CommandOrb}
-use Rattle.orb_list.specs.Layout.{data_size, data_start, has_table}
-use Rattle.page_table.specs.Buffer.{single}
-use Rattle.agent_laws.specs.Along.Lists.{Grows, IsLaid}
-use Rattle.sbp_journal.specs.Run.{Moment}
-use Rattle.sbp_journal.specs.declared.event.Cmd.{Cmd}
-use Rattle.sbp_laws.specs.CarriedBytes.{laid_out}
-use Rattle.sbp_laws.specs.Lists.{command_at, linked, slot_at}
-use Rattle.sbp_laws.specs.Terms.{appends}
-use Rattle.sbp_world.specs.Hosts.Lasting.{Lasts}
 use Rattle.sbp_world.proofs.Hosts.Lasting.{lasting_law}
-use Rattle.sbp_world.specs.Lists.Lists.{GrowingLaw, IsBufferOf, IsDataOf, IsOrbOf, orbs}
+use Rattle.sbp_world.specs.Lists.Lists.{IsDataOf}
 
 -- ---- a list is laid out
 

@@ -1,14 +1,7 @@
 -- Lists are open as they should be at each place of every run in which no initiator injected packets, or few logins were given, where a list that is open is the present one, and operations of the
 -- target and logins are of places and have FIFOs of logins.
-use Rattle.std.proofs.Common.{◌≡◌, ◌<◌, ◌≤◌, ℕ, length}
-use Rattle.sbp_world.specs.Histories.{history_of}
-use Rattle.sbp_world.specs.Runs.{Run}
-use Rattle.sbp_world.specs.Hosts.Runs.{IsRun}
-use Rattle.sbp_world.specs.Lists.Closes.{AreHere, ClosingLaw, OpenListsLaw, PlacesLaw, Under, WhereTameOrFew}
-use Rattle.sbp_world.specs.Lists.Lasts.{LastLaw}
-use Rattle.sbp_world.specs.Lists.Needs.{OpenBefore}
-use Rattle.sbp_world.specs.Lists.FewLogins.{IsTameOrFew}
-use Rattle.sbp_world.specs.Lists.Statuses.{AllSentSo, AllStatuses}
+use Rattle.sbp_world.proofs.Words.Std.{◌≡◌, ◌<◌, ◌≤◌, ℕ, length}
+use Rattle.sbp_world.proofs.Words.World.{history_of, Run, IsRun, AreHere, ClosingLaw, OpenListsLaw, PlacesLaw, Under, WhereTameOrFew, LastLaw, OpenBefore, IsTameOrFew, AllSentSo, AllStatuses}
 use Rattle.sbp_world.proofs.Lists.Closing.{closing_law}
 use Rattle.sbp_world.proofs.Lists.Lasts.{last_law}
 use Rattle.sbp_world.proofs.Lists.OpenLasting.{listed_law}

@@ -1,38 +1,14 @@
 -- What an action of an initiator, and the sight of a generation, make of its session and of its operation under way: an operation begins while none is, and one that
 -- moves the session does so; each other action leaves both. A later generation that is seen leaves none under way and no session in.
-use Rattle.std.proofs.Common.{◌≡◌, ◌∙◌, refl, sym, ap, ℕ, ◌==◌, Bool, true, false, cond, Option, Some, None}
-use Rattle.std.proofs.lemmas.Bool.{false≢true}
+use Rattle.sbp_world.proofs.Words.Std.{◌≡◌, ◌∙◌, refl, sym, ap, ℕ, ◌==◌, Bool, true, false, cond, Option, Some, None, false≢true}
+use Rattle.sbp_world.proofs.Words.Wire.{Asked, Layer, seeing_step, Action, Cmd, Operation, OutboxState, empty_outbox}
+use Rattle.sbp_world.proofs.Words.Initiator.{ManagementOrb, PresentList, ListState, drop_lists, high_lists, low_lists, find_in, TicketParts, act_step, append_step, asked_as, asked_for, demand_of, demanded_as, done_step, dummy_for, facts_with, judged_as, link_as, link_step, login_id, low_as, low_step, manage_start, managed_by, orb_by, pinned_for, put_as, put_step, register_start, ring_for, with_running, put_lists, Demand, Purpose, Running, InitiatorState, Turn, moves_session, is_in_held, is_in_live, is_in_out, is_in_stuck, refusal, interrupted, resets_told, see_step, seen_as, is_unwritten, no_marks, session_of, Origin, Seat, from_stuck, goes, pointing, reset, sent, is_stuck_seat, points}
 use Rattle.sbp_world.proofs.Hosts.Acts.{Goes, goes_layer, goes_on}
-use Rattle.label_table.specs.declared.judgement.Asked.{Asked}
-use Rattle.label_table.specs.Layer.{Layer, seeing_step}
-use Rattle.orb_layout.specs.declared.management.ManagementOrb.{ManagementOrb}
-use Rattle.orb_list.specs.declared.list.PresentList.{PresentList}
-use Rattle.orb_list.specs.Lists.{ListState, drop_lists, high_lists, low_lists}
-use Rattle.orb_list.specs.Table.{find_in}
-use Rattle.orb_list.specs.Tickets.{TicketParts}
-use Rattle.sbp_initiator.specs.Acting.{act_step, append_step, asked_as, asked_for, demand_of, demanded_as, done_step, dummy_for, facts_with, judged_as, link_as, link_step, login_id, low_as, low_step, manage_start, managed_by, orb_by, pinned_for, put_as, put_step, register_start, ring_for, with_running}
-use Rattle.sbp_initiator.specs.Commands.{put_lists}
-use Rattle.sbp_initiator.specs.declared.purpose.Demand.{Demand}
 use Rattle.sbp_initiator.specs.declared.purpose.Pointing.TheVariants as pointings
-use Rattle.sbp_initiator.specs.declared.purpose.Purpose.{Purpose}
-use Rattle.sbp_initiator.specs.declared.purpose.Running.{Running}
-use Rattle.sbp_initiator.specs.declared.state.InitiatorState.{InitiatorState}
-use Rattle.sbp_initiator.specs.Effects.{Turn, moves_session}
-use Rattle.sbp_initiator.specs.Refusals.{is_in_held, is_in_live, is_in_out, is_in_stuck, refusal}
-use Rattle.sbp_initiator.specs.Seeing.{interrupted, resets_told, see_step, seen_as}
-use Rattle.sbp_initiator.specs.States.{is_unwritten, no_marks, session_of}
-use Rattle.sbp_journal.specs.declared.event.Action.{Action}
 use Rattle.sbp_journal.specs.declared.event.Action.TheVariants as actions
-use Rattle.sbp_journal.specs.declared.event.Cmd.{Cmd}
-use Rattle.sbp_journal.specs.declared.operation.Operation.{Operation}
 use Rattle.sbp_journal.specs.declared.operation.Operation.TheVariants as operations
-use Rattle.sbp_journal.specs.Outgoings.{OutboxState, empty_outbox}
-use Rattle.sbp_session.specs.declared.seat.Origin.{Origin}
 use Rattle.sbp_session.specs.declared.seat.Origin.TheVariants as origins
-use Rattle.sbp_session.specs.declared.seat.Seat.{Seat}
 use Rattle.sbp_session.specs.declared.seat.Seat.TheVariants as seats
-use Rattle.sbp_session.specs.Moves.{from_stuck, goes, pointing, reset, sent}
-use Rattle.sbp_session.specs.Seats.{is_stuck_seat, points}
 use Rattle.sbp_world.proofs.Sessions.Sessions.{drop_seat}
 use Rattle.sbp_world.proofs.Lists.LiveMoves.{IsLike, drop_operation, like_pointing, like_self, like_then}
 use Rattle.sbp_world.proofs.Lists.LiveStandings.{Stand, apart, comes, inside, leaves, stand_of}

@@ -1,10 +1,7 @@
 -- An operation that enters or leaves is under way where the session stands on its way in, or out.
-use Rattle.std.proofs.Common.{◌≡◌, ◌∙◌, refl, sym, ap, ℕ, true, false, Option, Some, None}
-use Rattle.sbp_initiator.specs.declared.purpose.Running.{Running}
-use Rattle.sbp_initiator.specs.declared.state.InitiatorState.{InitiatorState}
-use Rattle.sbp_initiator.specs.Effects.{moves_session}
-use Rattle.sbp_journal.specs.declared.operation.Operation.{Operation}
-use Rattle.sbp_session.specs.declared.seat.Seat.{Seat}
+use Rattle.sbp_world.proofs.Words.Std.{◌≡◌, ◌∙◌, refl, sym, ap, ℕ, true, false, Option, Some, None}
+use Rattle.sbp_world.proofs.Words.Wire.{Operation}
+use Rattle.sbp_world.proofs.Words.Initiator.{Running, InitiatorState, moves_session, Seat}
 use Rattle.sbp_world.proofs.Lists.LiveActs.{Acted, Sends, begins, comes_back, goes_out, idle, logs_in, moves}
 use Rattle.sbp_world.proofs.Lists.LiveMoves.{Moved, answers, ends, gives_up, rests, undoes}
 use Rattle.sbp_world.proofs.Lists.LiveOwn.{enters, enters_moves, is_entry, is_exit, quits, quits_moves, two_ways}

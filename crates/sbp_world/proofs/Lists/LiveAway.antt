@@ -1,27 +1,16 @@
 -- What is in hand of an initiator's management over the notes of a turn that is none of the target: the write of the operation under way goes on, what is at rest stays
 -- so, and a status block that waits did so before, with the same bytes.
-use Rattle.std.proofs.Common.{arith, ◌≡◌, ◌∙◌, refl, sym, ap, subst, ◌⊎◌, inl, inr, ℕ, zero, suc, ◌≤◌, ◌&&◌, not, nat_eq, Bool, true, false, cond, List, [], ◌∷◌, ◌++◌, map, Option, Some, None}
-use Rattle.std.proofs.lemmas.Bool.Decides.{nat_tests}
-use Rattle.bus_transactions.specs.Wire.{as_sending}
+use Rattle.sbp_world.proofs.Words.Std.{arith, ◌≡◌, ◌∙◌, refl, sym, ap, subst, ◌⊎◌, inl, inr, ℕ, zero, suc, ◌≤◌, ◌&&◌, not, nat_eq, Bool, true, false, cond, List, [], ◌∷◌, ◌++◌, map, Option, Some, None, nat_tests}
+use Rattle.sbp_world.proofs.Words.Wire.{as_sending, Kept, Sent, found_sent, Moment, asked, said, Part, Sending, part_of, request, response, terms, Action, Event, Note}
+use Rattle.sbp_world.proofs.Words.Target.{Disk}
+use Rattle.sbp_world.proofs.Words.Laws.{Host, acted, goes_on, host_at, known_host, operation_of, sent_in, present_list, event_of}
+use Rattle.sbp_world.proofs.Words.World.{IsRest, IsTelling, outgoing_for}
 use Rattle.sbp_world.proofs.Hosts.Carries.{IsNoAct}
 use Rattle.sbp_world.proofs.Hosts.SentMoments.{sent_below}
-use Rattle.packet_store.specs.declared.sent.Kept.{Kept}
-use Rattle.packet_store.specs.declared.sent.Sent.{Sent}
-use Rattle.packet_store.specs.Kept.{found_sent}
-use Rattle.rbc_disk.specs.Disk.{Disk}
-use Rattle.sbp_journal.specs.Run.{Moment, asked, said}
-use Rattle.sbp_journal.specs.Transactions.{Part, Sending, no_packet, part_of, request, response}
-use Rattle.sbp_journal.specs.Wire.{terms}
-use Rattle.sbp_journal.specs.declared.event.Action.{Action}
-use Rattle.sbp_journal.specs.declared.event.Event.{Event}
+use Rattle.sbp_journal.specs.Transactions.{no_packet}
 use Rattle.sbp_journal.specs.declared.event.Event.TheVariants as events
-use Rattle.sbp_journal.specs.declared.note.Note.{Note}
 use Rattle.sbp_journal.specs.declared.note.Note.TheVariants as notes
-use Rattle.sbp_laws.specs.Hosts.{Host, acted, goes_on, host_at, known_host, operation_of, sent_as, sent_in}
-use Rattle.sbp_laws.specs.Lists.{present_list}
-use Rattle.sbp_laws.specs.Turns.{event_of}
-use Rattle.sbp_world.specs.Lists.Managing.{IsRest, IsTelling}
-use Rattle.sbp_world.specs.Lists.Tellings.{outgoing_for}
+use Rattle.sbp_laws.specs.Hosts.{sent_as}
 use Rattle.sbp_world.proofs.Lists.LiveLeads.{Leads, OldTelling, calm_leads, leads_self, leads_then, packet_leads}
 use Rattle.sbp_world.proofs.Lists.LiveTold.{AllAway, IsAway, IsOwnPacket}
 use Rattle.sbp_world.proofs.Lists.ManageFirsts.{Goes, acted_none, goes_then, note_first, same_goes, sent_first, pick}

@@ -1,52 +1,21 @@
 -- Where a status of 00 is got for a login, its buffer holds a response with the agent of a place; so it does wherever a login is done.
-use Rattle.std.proofs.Common.{arith, ◌≡◌, ◌∙◌, refl, sym, ap, subst, ℕ, suc, ◌<◌, ◌≤◌, Bool, true, false, cond, List, [], ◌∷◌, ◌++◌, map, length, Option, Some, None, Result, Ok}
-use Rattle.std.specs.Prelude.{slice_index_or}
-use Rattle.async_packet.specs.declared.fault.PacketFault.{PacketFault}
-use Rattle.async_packet.specs.Packet.{Packet}
-use Rattle.async_packet.specs.Reading.{reading}
+use Rattle.sbp_world.proofs.Words.Std.{arith, ◌≡◌, ◌∙◌, refl, sym, ap, subst, ℕ, suc, ◌<◌, ◌≤◌, Bool, true, false, cond, List, [], ◌∷◌, ◌++◌, map, length, Option, Some, None, Result, Ok, slice_index_or}
+use Rattle.sbp_world.proofs.Words.Wire.{PacketFault, Packet, reading, SerialsCount, Access, Moment, asked, said, Sending, Terms, terms, Event, Note, Operation, OpWord}
+use Rattle.sbp_world.proofs.Words.Target.{Status, status_block, number_of, Disk}
+use Rattle.sbp_world.proofs.Words.Initiator.{start_of, Fifo, fifo_at, LoginResponse, login_response, Answer, Done, Expired, NoLabel, Payload, Refused, Running, InitiatorState, place_in, status_in}
+use Rattle.sbp_world.proofs.Words.Laws.{Host, Underway, answered, host_at, known_host, pointer_answered, response_of, stored, present_list, access_at, access_in, answered_at, packet_in, receiver_in, spelled_by, EachMoment}
+use Rattle.sbp_world.proofs.Words.World.{Core, Work, work_in, work_of, is_open, HoldsLogin, AreAsked, GoodAt, GrantedAt, IsAnswerTo, IsGot, IsTelling, BasedAt, HasBase, IsTold, outgoing_for}
 use Rattle.bus_memory.specs.declared.window.Window.TheVariants as windows
-use Rattle.bus_memory.specs.Windows.{start as start_of}
-use Rattle.bus_transactions.specs.Packets.{SerialsCount}
 use Rattle.sbp_world.proofs.Hosts.Cores.{wire_is}
 use Rattle.sbp_world.proofs.Hosts.Hosted.{Cored}
-use Rattle.sbp_world.specs.Hosts.Core.{Core, Work, placed, work_in, work_of}
-use Rattle.initiator_base.specs.declared.fifos.Fifo.{Fifo}
-use Rattle.initiator_base.specs.Fifos.{fifo_at}
-use Rattle.mgmt_agent.specs.declared.status.Status.{Status}
-use Rattle.mgmt_agent.specs.Machine.{status_block}
-use Rattle.mgmt_agent.specs.Statuses.{number_of}
-use Rattle.orb_layout.specs.declared.login.LoginResponse.{LoginResponse}
-use Rattle.orb_layout.specs.LoginResponses.{login_response}
-use Rattle.orb_layout.specs.Replies.{Answer, Done, Expired, NoLabel, Payload, Refused}
-use Rattle.rbc_disk.specs.Disk.{Disk}
-use Rattle.sbp_initiator.specs.declared.purpose.Running.{Running}
-use Rattle.sbp_initiator.specs.declared.state.InitiatorState.{InitiatorState}
+use Rattle.sbp_world.specs.Hosts.Core.{placed}
 use Rattle.sbp_initiator.specs.Effects as own
-use Rattle.sbp_initiator.specs.States.{place_in, status_in}
-use Rattle.sbp_journal.specs.Addresses.{Access}
-use Rattle.sbp_journal.specs.Run.{Moment, asked, said}
-use Rattle.sbp_journal.specs.Transactions.{Sending}
-use Rattle.sbp_journal.specs.Wire.{Terms, terms}
-use Rattle.sbp_journal.specs.declared.event.Event.{Event}
-use Rattle.sbp_journal.specs.declared.note.Note.{Note}
 use Rattle.sbp_journal.specs.declared.note.Note.TheVariants as notes
-use Rattle.sbp_journal.specs.declared.operation.Operation.{Operation}
 use Rattle.sbp_journal.specs.declared.operation.Operation.TheVariants as operations
-use Rattle.sbp_journal.specs.declared.operation.OpWord.{OpWord}
 use Rattle.sbp_journal.specs.declared.operation.OpWord.TheVariants as words
-use Rattle.sbp_laws.specs.Hosts.{Host, Underway, answered, got_by, host_at, is_serial, known_host, pointer_answered, response_of, stored}
+use Rattle.sbp_laws.specs.Hosts.{got_by, is_serial}
 use Rattle.sbp_laws.specs.Hosts as hosts
-use Rattle.sbp_laws.specs.Lists.{present_list}
-use Rattle.sbp_laws.specs.Packets.{access_at, access_in, answered_at, packet_in, receiver_in, spelled_by}
-use Rattle.sbp_laws.specs.Turns.{EachMoment}
 use Rattle.sbp_world.proofs.Sessions.Buffers.{at_far, stored_far}
-use Rattle.sbp_world.specs.Sessions.Entering.{is_open}
-use Rattle.sbp_world.specs.Sessions.Holding.{HoldsLogin}
-use Rattle.sbp_world.specs.Lists.Contents.{AreAsked}
-use Rattle.sbp_world.specs.Lists.LoginAnswers.{GoodAt, GrantedAt, IsAnswerTo, IsGot}
-use Rattle.sbp_world.specs.Lists.Managing.{IsTelling}
-use Rattle.sbp_world.specs.Lists.Placings.{BasedAt, HasBase}
-use Rattle.sbp_world.specs.Lists.Tellings.{IsTold, outgoing_for}
 use Rattle.sbp_world.proofs.Lists.Gots.{Next, next, next_line, same_still}
 use Rattle.sbp_world.proofs.Lists.LiveBlocks.{SentBlock, TellsBlock, good_status, sent_block, tells_block}
 use Rattle.sbp_world.proofs.Lists.LiveLeads.{hands_before}

@@ -1,31 +1,16 @@
 -- The logins with which a run begins are as the sessions of the initiators say.
-use Rattle.std.proofs.Common.{arith, ◌≡◌, ◌∙◌, refl, sym, ap, subst, inr, ℕ, zero, suc, ◌+◌, ◌-◌, ◌<◌, ◌≤◌, nat_lt, Bool, true, false, List, ◌++◌, length, replicate, Option, Some, None}
-use Rattle.std.proofs.lemmas.Bool.Decides.{nat_tests}
-use Rattle.std.proofs.lemmas.Grind.{common_steps}
-use Rattle.std.proofs.lemmas.List.{get_or-replicate, length-replicate}
-use Rattle.login_table.specs.declared.login.Login.{Login}
-use Rattle.login_table.specs.Table.{Table, place_at}
-use Rattle.rbc_disk.specs.Disk.{Disk}
-use Rattle.sbp_bus.specs.declared.generations.Topology.{Topology}
-use Rattle.sbp_bus.specs.Generations.{first_topology, id_of, no_topology, topology_at}
-use Rattle.sbp_initiator.specs.declared.state.InitiatorState.{InitiatorState}
-use Rattle.sbp_initiator.specs.Initiators.{new_state}
-use Rattle.sbp_journal.specs.Run.{Moment}
-use Rattle.sbp_laws.specs.Targets.{first_login, first_table, logins_from}
-use Rattle.sbp_world.specs.Making.{new_world}
-use Rattle.sbp_world.specs.Worlds.{WorldState, initiator_at}
+use Rattle.sbp_world.proofs.Words.Std.{arith, ◌≡◌, ◌∙◌, refl, sym, ap, subst, inr, ℕ, zero, suc, ◌+◌, ◌-◌, ◌<◌, ◌≤◌, nat_lt, Bool, true, false, List, ◌++◌, length, replicate, Option, Some, None, nat_tests, common_steps, get_or-replicate, length-replicate}
+use Rattle.sbp_world.proofs.Words.Wire.{Topology, first_topology, id_of, no_topology, topology_at, Moment}
+use Rattle.sbp_world.proofs.Words.Target.{Login, Table, place_at, Disk}
+use Rattle.sbp_world.proofs.Words.Initiator.{InitiatorState, new_state}
+use Rattle.sbp_world.proofs.Words.Laws.{first_login, first_table, logins_from, EachMoment}
+use Rattle.sbp_world.proofs.Words.World.{new_world, WorldState, initiator_at, HasLogin, HasOne, IsActive, IsTaken, IsTold, GoodAt, NoBadAt, OursAt, OwnedAt, BasedAt}
 use Rattle.sbp_world.proofs.Making.{initiators_size}
 use Rattle.sbp_world.proofs.Wire.Starts.{first_id, states_at}
 use Rattle.sbp_world.proofs.Agents.Management.Begins.{first_holds}
-use Rattle.sbp_world.specs.Lists.Live.{HasLogin, HasOne}
-use Rattle.sbp_world.specs.Lists.Tellings.{IsActive, IsTaken, IsTold}
 use Rattle.sbp_world.proofs.Lists.LiveAims.{Aims, aims_none}
 use Rattle.sbp_world.proofs.Lists.LiveOwn.{Fit}
 use Rattle.sbp_world.proofs.Lists.LiveStandings.{Claims, apart_comes, apart_leaves, claims_apart, claims_inside, inside_comes, inside_leaves, none_number, number_in, stand_of}
-use Rattle.sbp_laws.specs.Turns.{EachMoment}
-use Rattle.sbp_world.specs.Lists.LoginAnswers.{GoodAt, NoBadAt}
-use Rattle.sbp_world.specs.Lists.Owners.{OursAt, OwnedAt}
-use Rattle.sbp_world.specs.Lists.Placings.{BasedAt}
 use Rattle.sbp_world.proofs.Lists.LiveGrants.{none_grants}
 use Rattle.sbp_world.proofs.Lists.LiveSteps.{ClaimsOf, Grown, Lives, id_in, own_of, zero_of}
 use Rattle.sbp_world.proofs.Lists.LiveTables.{none_login}

@@ -1,45 +1,21 @@
 -- The status block of an operation of the target's management, as it was sent: its payload is what the management had to write, it names the ORB, and its status is
 -- read of it.
-use Rattle.std.proofs.Common.{arith, ◌≡◌, ◌∙◌, refl, sym, ap, subst, ◌<◌, ◌≤◌, ◌+◌, ◌^◌, ◌==◌, ◌&&◌, ◌||◌, nat_eq, nat_le, ℕ, zero, suc, Bool, true, false, cond, List, [], ◌∷◌, ◌++◌, length, Option, Some, None, Result, Ok}
-use Rattle.std.proofs.lemmas.Bool.Decides.{nat_tests}
-use Rattle.async_packet.specs.declared.packet.Header.{Header}
-use Rattle.async_packet.specs.declared.fault.PacketFault.{PacketFault}
-use Rattle.async_packet.specs.Packet.{Packet, write_block}
-use Rattle.async_packet.specs.Reading.{reading}
+use Rattle.sbp_world.proofs.Words.Std.{arith, ◌≡◌, ◌∙◌, refl, sym, ap, subst, ◌<◌, ◌≤◌, ◌+◌, ◌^◌, ◌==◌, ◌&&◌, ◌||◌, nat_eq, nat_le, ℕ, zero, suc, Bool, true, false, cond, List, [], ◌∷◌, ◌++◌, length, Option, Some, None, Result, Ok, nat_tests}
+use Rattle.sbp_world.proofs.Words.Wire.{Header, PacketFault, Packet, write_block, reading, SerialsCount, Body, block_read, block_write, quadlet_read, quadlet_write, Access, Moment, asked, said, Sending, terms, largest}
+use Rattle.sbp_world.proofs.Words.Target.{Operation, Status, status_block, number_of, Disk, manager_body}
+use Rattle.sbp_world.proofs.Words.Initiator.{start_of, names_place, Ask, StatusBlock, offset_at, is_among, management_meanings, read_block, status_in}
+use Rattle.sbp_world.proofs.Words.Laws.{access_in, access_in_bytes, spelled_by, target_at}
+use Rattle.sbp_world.proofs.Words.World.{AccessOf, WasAsked, access_for, outgoing_for}
 use Rattle.bus_memory.specs.declared.window.Window.TheVariants as windows
-use Rattle.bus_memory.specs.Windows.{start as start_of}
-use Rattle.bus_transactions.specs.Packets.{SerialsCount}
-use Rattle.initiator_base.specs.Places.{names_place}
-use Rattle.label_table.specs.Bodies.{Body, block_read, block_write, quadlet_read, quadlet_write}
-use Rattle.mgmt_agent.specs.declared.operation.Operation.{Operation}
 use Rattle.mgmt_agent.specs.declared.operation.Phase.{Phase}
 use Rattle.mgmt_agent.specs.declared.operation.Phase.TheVariants as phases
-use Rattle.mgmt_agent.specs.declared.status.Status.{Status}
 use Rattle.mgmt_agent.specs.declared.status.Status.TheVariants as statuses
-use Rattle.mgmt_agent.specs.Machine.{status_block}
-use Rattle.mgmt_agent.specs.Statuses.{number_of}
-use Rattle.orb_layout.specs.declared.ask.Ask.{Ask}
 use Rattle.orb_layout.specs.declared.ask.Ask.TheVariants as asks
-use Rattle.orb_layout.specs.declared.status.StatusBlock.{StatusBlock}
 use Rattle.orb_layout.specs.declared.status.StatusKind.TheVariants as kinds
-use Rattle.orb_layout.specs.Pointers.{offset_at}
-use Rattle.orb_layout.specs.StatusBlocks.{is_among, management_meanings, read_block}
 use Rattle.orb_layout.proofs.StatusBack.{status_back}
-use Rattle.rbc_disk.specs.Disk.{Disk}
-use Rattle.sbp_initiator.specs.States.{status_in}
-use Rattle.sbp_journal.specs.Addresses.{Access}
-use Rattle.sbp_journal.specs.Run.{Moment, asked, said}
-use Rattle.sbp_journal.specs.Transactions.{Sending}
-use Rattle.sbp_journal.specs.Wire.{terms}
 use Rattle.sbp_journal.specs.declared.note.Note.TheVariants as notes
-use Rattle.sbp_laws.specs.Packets.{access_in, access_in_bytes, spelled_by}
-use Rattle.sbp_laws.specs.Targets.{target_at}
-use Rattle.async_packet.specs.Fields.{largest}
-use Rattle.sbp_target.specs.Management.{manager_body}
 use Rattle.sbp_world.proofs.Hosts.Remaining.{remains, serials_behind}
 use Rattle.sbp_world.proofs.Hosts.SentMoments.{count_now, serials_from}
-use Rattle.sbp_world.specs.Lists.Contents.{AccessOf, WasAsked, access_for}
-use Rattle.sbp_world.specs.Lists.Tellings.{outgoing_for}
 use Rattle.sbp_world.proofs.Lists.ManageSends.{sent_is, sent_terms}
 use Rattle.sbp_world.proofs.Lists.ManageTerms.{none_is, same_some}
 use Rattle.sbp_world.proofs.Lists.StatusBytes.{same_block}

@@ -1,11 +1,10 @@
 -- While the target writes a status block, or one waits, a turn that is none of the target leaves the response buffers of the initiator: in a run in which no initiator
 -- injected packets.
-use Rattle.std.proofs.Common.{◌≡◌, ◌∙◌, sym, subst, ◌⊎◌, inl, inr, ◌<◌, length}
-use Rattle.sbp_initiator.specs.declared.purpose.Running.{Running}
-use Rattle.sbp_laws.specs.Hosts.{host_at}
-use Rattle.sbp_world.specs.Worlds.{initiator_at}
+use Rattle.sbp_world.proofs.Words.Std.{◌≡◌, ◌∙◌, sym, subst, ◌⊎◌, inl, inr, ◌<◌, length}
+use Rattle.sbp_world.proofs.Words.Initiator.{Running}
+use Rattle.sbp_world.proofs.Words.Laws.{host_at}
+use Rattle.sbp_world.proofs.Words.World.{initiator_at, AreReplied}
 use Rattle.sbp_world.proofs.Agents.Management.Still.{hist}
-use Rattle.sbp_world.specs.Lists.Responding.{AreReplied}
 use Rattle.sbp_world.proofs.Lists.BufferTurns.{buffers_same, status_stays, told_stays}
 use Rattle.sbp_world.proofs.Lists.KeptTurns.{id_is, operation_is, own_is, zero_is}
 use Rattle.sbp_world.proofs.Lists.LiveJoined.{BufferTurns}

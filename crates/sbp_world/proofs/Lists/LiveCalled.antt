@@ -1,21 +1,12 @@
 -- The target is called: what that leaves of the operation that an initiator of its generation has under way, and of the status blocks that wait for it.
-use Rattle.std.proofs.Common.{arith, ◌≡◌, ◌∙◌, refl, sym, ap, subst, ◌⊎◌, inl, inr, ℕ, ◌<◌, Bool, List, ◌++◌, map, Option, Some, None}
+use Rattle.sbp_world.proofs.Words.Std.{arith, ◌≡◌, ◌∙◌, refl, sym, ap, subst, ◌⊎◌, inl, inr, ℕ, ◌<◌, Bool, List, ◌++◌, map, Option, Some, None}
+use Rattle.sbp_world.proofs.Words.Wire.{Moment, said, terms, Note}
+use Rattle.sbp_world.proofs.Words.Target.{Managed, Disk}
+use Rattle.sbp_world.proofs.Words.Initiator.{start_of, Running, InitiatorState}
+use Rattle.sbp_world.proofs.Words.Laws.{Underway, host_at, is_management, target_at}
+use Rattle.sbp_world.proofs.Words.World.{Core, work_in, work_of, IsAccepted, IsBusy, IsHandling, IsManaged, IsRest, IsTelling, AllOf, IsTaken, IsTold, outgoing_for}
 use Rattle.bus_memory.specs.declared.window.Window.TheVariants as windows
-use Rattle.bus_memory.specs.Windows.{start as start_of}
 use Rattle.sbp_world.proofs.Hosts.Hosted.{Cored}
-use Rattle.sbp_world.specs.Hosts.Core.{Core, work_in, work_of}
-use Rattle.mgmt_agent.specs.declared.operation.Operation.{Operation as Managed}
-use Rattle.rbc_disk.specs.Disk.{Disk}
-use Rattle.sbp_initiator.specs.declared.purpose.Running.{Running}
-use Rattle.sbp_initiator.specs.declared.state.InitiatorState.{InitiatorState}
-use Rattle.sbp_journal.specs.Run.{Moment, said}
-use Rattle.sbp_journal.specs.Wire.{terms}
-use Rattle.sbp_journal.specs.declared.note.Note.{Note}
-use Rattle.sbp_laws.specs.Hosts.{Underway, host_at, is_management}
-use Rattle.sbp_laws.specs.Targets.{target_at}
-use Rattle.sbp_world.specs.Lists.Managing.{IsAccepted, IsBusy, IsHandling, IsManaged, IsRest, IsTelling}
-use Rattle.sbp_world.specs.Lists.Opened.{AllOf}
-use Rattle.sbp_world.specs.Lists.Tellings.{IsTaken, IsTold, outgoing_for}
 use Rattle.sbp_world.proofs.Lists.LiveLeads.{Leads, NewTelling, OldTelling, Opening, WasAsked, first_host, first_opens, first_outgoing, hands_before, leads_then, opening_asked, opening_leads, opening_rest, opening_telling, opening_then, sends_handling, sends_host, sends_lead, sends_rest, sends_telling, told_calm, told_host, told_outgoing, was_asked, was_there}
 use Rattle.sbp_world.proofs.Lists.LiveTold.{IsFirst, is_behind, is_own_packet}
 use Rattle.sbp_world.proofs.Lists.ManageFirsts.{Goes, goes_then}

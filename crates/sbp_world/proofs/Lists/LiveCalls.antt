@@ -1,38 +1,19 @@
 -- What each call of a target leaves of the operation of its management and of its logins: a delivery starts an operation by a request, takes it on by a reply, or
 -- leaves it; any other call ends it or leaves it. Behind the sight of a later generation no login is live.
-use Rattle.std.proofs.Common.{◌≡◌, ◌∙◌, refl, sym, ap, subst, ℕ, Bool, true, false, List, length, map, Option, Some, None, Result, Ok, Err}
-use Rattle.async_packet.specs.Labels.{LabelParts}
-use Rattle.async_packet.specs.Packet.{Packet, header_in}
-use Rattle.label_table.specs.declared.reply.Stale.{Stale}
-use Rattle.label_table.specs.Layer.{Finding, Layer, expiring_step, judging_step, of_again, of_generation, of_grammar, of_label, of_request, of_response, seeing_step}
-use Rattle.login_table.specs.Table.{Table, held}
-use Rattle.mgmt_agent.specs.declared.operation.Operation.{Operation}
+use Rattle.sbp_world.proofs.Words.Std.{◌≡◌, ◌∙◌, refl, sym, ap, subst, ℕ, Bool, true, false, List, length, map, Option, Some, None, Result, Ok, Err}
+use Rattle.sbp_world.proofs.Words.Wire.{LabelParts, Packet, header_in, Stale, Finding, Layer, expiring_step, judging_step, of_again, of_generation, of_grammar, of_label, of_request, of_response, seeing_step, empty_outbox}
+use Rattle.sbp_world.proofs.Words.Target.{Table, held, Operation, reply_in, reply_to, start_step, start_with, Disk, Told, Purpose, alone, lets_expire, sees, sets_key, ticks, NodeState, scene, answer_in, cleared_node, received, reset_by, target_seen, target_ticked, cut_all, whole, is_barred, demand_of, Demand}
+use Rattle.sbp_world.proofs.Words.Initiator.{Nothing, Expired}
+use Rattle.sbp_world.proofs.Words.World.{CallsKeep, demanded, lapsed, requested, seen, Office, replied, started, started_by, ticked, with_key, AreSame, LoginsStand, IsAsked}
 use Rattle.mgmt_agent.specs.declared.operation.Phase.{Phase}
 use Rattle.mgmt_agent.specs.declared.operation.Phase.TheVariants as phases
-use Rattle.mgmt_agent.specs.Machine.{Machine, reply_in, reply_step, reply_to, start_step, start_with}
-use Rattle.orb_layout.specs.declared.ask.Ask.TheVariants.{Nothing}
-use Rattle.orb_layout.specs.Replies.{Expired}
-use Rattle.rbc_disk.specs.Disk.{Disk}
-use Rattle.rbc_disk.specs.Runs.{Told}
-use Rattle.sbp_journal.specs.Outgoings.{empty_outbox}
-use Rattle.sbp_target.specs.declared.purpose.Purpose.{Purpose}
+use Rattle.mgmt_agent.specs.Machine.{Machine, reply_step}
 use Rattle.sbp_target.specs.declared.purpose.Purpose.TheVariants as purposes
-use Rattle.sbp_target.specs.Calls.{alone, lets_expire, sees, sets_key, ticks}
-use Rattle.sbp_target.specs.Nodes.{NodeState, scene}
 use Rattle.sbp_journal.specs.declared.cause.CutCause.TheVariants as cuts
-use Rattle.sbp_target.specs.Receiving.{answer_in, cleared_node, received, reset_by, seen as target_seen, ticked as target_ticked}
-use Rattle.sbp_target.specs.Units.{cut_all}
-use Rattle.sbp_target.specs.Replies.{whole}
-use Rattle.sbp_target.specs.Serving.{is_barred}
-use Rattle.target_base.specs.Addresses.{demand_of}
-use Rattle.target_base.specs.declared.address.Demand.{Demand}
 use Rattle.target_base.specs.declared.address.Demand.TheVariants as demands
 use Rattle.sbp_target.proofs.Histories.Calling.{Good}
 use Rattle.sbp_world.proofs.Agents.Cuts.{all_cut}
-use Rattle.sbp_world.specs.Agents.Management.Calls.{CallsKeep, delivered, demanded, lapsed, requested, seen}
-use Rattle.sbp_world.specs.Agents.Management.Offices.{Office, replied, started, started_by, ticked, with_key}
-use Rattle.sbp_world.specs.Sessions.Standing.{AreSame, LoginsStand}
-use Rattle.sbp_world.specs.Sessions.Starting.{IsAsked}
+use Rattle.sbp_world.specs.Agents.Management.Calls.{delivered}
 use Rattle.sbp_world.proofs.Sessions.Decisions.{expired_over, none_goes}
 use Rattle.sbp_world.proofs.Sessions.Logins.{same}
 use Rattle.sbp_world.proofs.Sessions.Standing.{stands as logins_stand}

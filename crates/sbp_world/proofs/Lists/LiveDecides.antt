@@ -1,27 +1,16 @@
 -- What a decision on a management ORB leaves of the live logins of its source: where that had none, it has one at most, and none where the status is not 00;
 -- where each that it had is of the ID that a logout names, it has none; and a function that is about no login leaves them.
-use Rattle.std.proofs.Common.{arith, ◌≡◌, ◌≢◌, ◌∙◌, refl, sym, subst, ℕ, ◌==◌, not, nat_eq, Bool, true, false, cond, List, set, Option, Some, None, Result, Ok, Err}
-use Rattle.std.specs.Prelude.{is_none, position}
-use Rattle.std.proofs.lemmas.Bool.Decides.{nat_tests}
-use Rattle.std.proofs.lemmas.Grind.{get_or-set_at}
-use Rattle.std.proofs.lemmas.List.{get_or-set_other}
-use Rattle.std.proofs.lemmas.Bool.{false≢true}
-use Rattle.login_table.specs.declared.login.Entered.{Entered}
-use Rattle.login_table.specs.declared.login.Login.{Login}
-use Rattle.login_table.specs.declared.login.LoginRefusal.{LoginRefusal}
+use Rattle.sbp_world.proofs.Words.Std.{arith, ◌≡◌, ◌≢◌, ◌∙◌, refl, sym, subst, ℕ, ◌==◌, not, nat_eq, Bool, true, false, cond, List, set, Option, Some, None, Result, Ok, Err, is_none, position, nat_tests, get_or-set_at, get_or-set_other, false≢true}
+use Rattle.sbp_world.proofs.Words.Target.{Entered, Login, LoginRefusal, IsTable, Table, back_step, enter_step, entered, find, id_at, is_held, is_live, is_live_of, is_old, leave_at, leave_step, left_for, place_at, revived, Function, asked_by, back_decided, decide, decide_function, key_at, lacks_key, left_decided, login_decided, unit_exists, with_status, function_of}
+use Rattle.sbp_world.proofs.Words.Initiator.{ManagementOrb}
+use Rattle.sbp_world.proofs.Words.World.{HasLogin, HasNone, HasOne}
 use Rattle.login_table.specs.declared.login.LoginRefusal.TheVariants as refusals
-use Rattle.login_table.specs.Sound.{IsTable}
 use Rattle.login_table.specs.Table as table
-use Rattle.login_table.specs.Table.{Table, back_step, enter_step, entered, find, id_at, is_held, is_live, is_live_of, is_old, leave_at, leave_step, left_for, place_at, revived}
 use Rattle.login_table.proofs.Searching.{found, not_found}
-use Rattle.orb_layout.specs.declared.management.ManagementOrb.{ManagementOrb}
 use Rattle.mgmt_agent.specs.declared.decision.Outcome.{Outcome}
-use Rattle.mgmt_agent.specs.declared.function.Function.{Function}
 use Rattle.mgmt_agent.specs.declared.function.Function.TheVariants as functions
 use Rattle.mgmt_agent.specs.declared.status.Status.TheVariants as statuses
-use Rattle.mgmt_agent.specs.Decisions.{asked_by, back_decided, decide, decide_function, key_at, lacks_key, left_decided, login_decided, unit_exists, with_status}
-use Rattle.mgmt_agent.specs.Statuses.{function_of}
-use Rattle.sbp_world.specs.Lists.Live.{AreNamed, HasLogin, HasNone, HasOne}
+use Rattle.sbp_world.specs.Lists.Live.{AreNamed}
 use Rattle.sbp_world.proofs.Lists.LiveTables.{emptied_none, none_login, none_one, other_place, set_one}
 use Rattle.sbp_world.proofs.Sessions.Decisions.{of_id}
 use Rattle.sbp_world.proofs.Hosts.Statuses.Waits.{all_three}

@@ -1,64 +1,23 @@
 -- When an initiator tells that its login is done, or that its logout is refused: as a status block of the target is delivered, for the management ORB of the operation
 -- under way, with status 00 or with another; and in no other call.
-use Rattle.std.proofs.Common.{arith, ◌≡◌, ◌∙◌, refl, sym, ap, subst, ℕ, ◌==◌, ◌&&◌, nat_eq, nat_lt, Bool, true, false, cond, List, [], ◌∷◌, ◌++◌, replicate, Option, Some, None, Result, Ok, Err}
-use Rattle.std.proofs.lemmas.Bool.Decides.{nat_tests}
-use Rattle.byteorder.specs.Endian.{big_bytes}
-use Rattle.async_packet.specs.declared.packet.Header.{Header}
-use Rattle.async_packet.specs.Labels.{LabelParts}
-use Rattle.async_packet.specs.Packet.{Packet, header_in, lock, lock_response, read_block, read_block_response, read_quadlet, read_quadlet_response, write_block, write_quadlet, write_response}
-use Rattle.bus_memory.specs.Access.{read_step}
-use Rattle.config_rom.specs.declared.fault.RomFault.{RomFault}
-use Rattle.config_rom.specs.declared.unit.SbpUnit.{SbpUnit}
-use Rattle.config_rom.specs.Reading.{Tree, reading}
-use Rattle.config_rom.specs.Unit.{sbp_unit_of}
+use Rattle.sbp_world.proofs.Words.Std.{arith, ◌≡◌, ◌∙◌, refl, sym, ap, subst, ℕ, ◌==◌, ◌&&◌, nat_eq, nat_lt, Bool, true, false, cond, List, [], ◌∷◌, ◌++◌, replicate, Option, Some, None, Result, Ok, Err, nat_tests, big_bytes}
+use Rattle.sbp_world.proofs.Words.Wire.{Header, LabelParts, Packet, header_in, lock, lock_response, read_block, read_block_response, read_quadlet, read_quadlet_response, write_block, write_quadlet, write_response, Asked, Stale, Finding, Layer, answering_step, asking_step, expiring_step, judging_step, of_again, of_generation, of_grammar, of_label, of_request, of_response, seeing_step, Judged, buffer_of, Action, Cmd, Operation, OpWord, Side, OutboxState, empty_outbox}
+use Rattle.sbp_world.proofs.Words.Target.{RomFault, SbpUnit, Tree, reading, sbp_unit_of, is_block}
+use Rattle.sbp_world.proofs.Words.Initiator.{read_step, Fifo, management_at, with_quad, OrbFault, StatusBlock, StatusKind, ListState, drop_lists, take_lists, write_lists, PresentList, TicketParts, act_step, append_step, asked_as, asked_for, demand_of, demanded_as, done_step, dummy_for, facts_with, judged_as, link_as, link_step, low_as, low_step, put_as, put_step, ring_for, Demand, Ending, Purpose, Running, InitiatorState, Turn, ask_quad, asked_quad, conflict_for, drop_list_step, drop_where, dropped_as, end_own_for, end_own_step, end_step, ended_for, ended_step, fail_step, fault_number, finish_rom, good_event, good_word, is_address, is_conflict, known_where, managed_step, moved, moves_session, next_quad, quad_got, response_of, state_told, stick_step, told, with_dead, with_rom, with_unit, addressed, block_at, block_by, block_step, called, expire_step, expired_as, fifo_of, got_step, ignored_step, is_foreign, managed_for, present_for, quadlet_at, read_as, receive_step, received, request_step, respond_step, responded_as, serve_step, status_step, taken_as, taken_by, written_as, ends_list, refusal, all_end, resets_told, see_step, seen_as, states_end, counts_for, ending_of, is_orb_of, is_present_orb, last_linked, status_in, Event, bad, conflict, goes, is_stuck_seat}
+use Rattle.sbp_world.proofs.Words.World.{is_open}
 use Rattle.sbp_world.proofs.Hosts.KnowHears.{IfExpires, IfFits}
-use Rattle.initiator_base.specs.declared.fifos.Fifo.{Fifo}
 use Rattle.initiator_base.specs.declared.fifos.Fifo.TheVariants as fifos
-use Rattle.initiator_base.specs.Places.{management_at}
-use Rattle.initiator_base.specs.Quads.{with_quad}
 use Rattle.sbp_initiator.proofs.Histories.Effects.{Fits, IsFor}
 use Rattle.sbp_initiator.proofs.Histories.Purposes.{IfFor}
-use Rattle.label_table.specs.declared.judgement.Asked.{Asked}
-use Rattle.label_table.specs.declared.reply.Stale.{Stale}
-use Rattle.label_table.specs.Layer.{Finding, Layer, answering_step, asking_step, expiring_step, judging_step, of_again, of_generation, of_grammar, of_label, of_request, of_response, seeing_step}
-use Rattle.media_bay.specs.Unsolicited.{is_block}
-use Rattle.orb_layout.specs.declared.fault.OrbFault.{OrbFault}
-use Rattle.orb_layout.specs.declared.status.StatusBlock.{StatusBlock}
-use Rattle.orb_layout.specs.declared.status.StatusKind.{StatusKind}
 use Rattle.orb_layout.specs.declared.status.StatusKind.TheVariants as kinds
-use Rattle.orb_list.specs.Lists.{ListState, drop_lists, take_lists, write_lists}
-use Rattle.orb_list.specs.declared.list.PresentList.{PresentList}
-use Rattle.orb_list.specs.Tickets.{TicketParts}
-use Rattle.sbp_initiator.specs.Acting.{act_step, append_step, asked_as, asked_for, demand_of, demanded_as, done_step, dummy_for, facts_with, judged_as, link_as, link_step, low_as, low_step, put_as, put_step, ring_for}
-use Rattle.sbp_initiator.specs.declared.purpose.Demand.{Demand}
-use Rattle.sbp_initiator.specs.declared.purpose.Ending.{Ending}
 use Rattle.sbp_initiator.specs.declared.purpose.Ending.TheVariants as endings
-use Rattle.sbp_initiator.specs.declared.purpose.Purpose.{Purpose}
 use Rattle.sbp_initiator.specs.declared.purpose.Purpose.TheVariants as purposes
-use Rattle.sbp_initiator.specs.declared.purpose.Running.{Running}
-use Rattle.sbp_initiator.specs.declared.state.InitiatorState.{InitiatorState}
-use Rattle.sbp_initiator.specs.Effects.{Turn, ask_quad, asked_quad, conflict_for, drop_list_step, drop_where, dropped_as, end_own_for, end_own_step, end_step, ended_for, ended_step, fail_step, fault_number, finish_rom, good_event, good_word, is_address, is_conflict, known_where, managed_step, moved, moves_session, next_quad, quad_got, response_of, state_told, stick_step, told, with_dead, with_rom, with_unit}
-use Rattle.sbp_initiator.specs.Receiving.{addressed, block_at, block_by, block_step, called, expire_step, expired_as, fifo_of, got_step, ignored_step, is_foreign, managed_for, present_for, quadlet_at, read_as, receive_step, received, request_step, respond_step, responded_as, serve_step, status_step, taken_as, taken_by, written_as}
-use Rattle.sbp_initiator.specs.Refusals.{ends_list, refusal}
-use Rattle.sbp_initiator.specs.Seeing.{all_end, resets_told, see_step, seen_as, states_end}
-use Rattle.sbp_initiator.specs.States.{counts_for, ending_of, is_orb_of, is_present_orb, last_linked, status_in}
 use Rattle.sbp_journal.specs.declared.cause.Cause.TheVariants as ignored
-use Rattle.sbp_journal.specs.declared.cause.Judged.{Judged}
-use Rattle.sbp_journal.specs.Buffers.{buffer_of}
-use Rattle.sbp_journal.specs.declared.event.Action.{Action}
 use Rattle.sbp_journal.specs.declared.event.Action.TheVariants as actions
-use Rattle.sbp_journal.specs.declared.event.Cmd.{Cmd}
 use Rattle.sbp_journal.specs.declared.note.Note.TheVariants as notes
-use Rattle.sbp_journal.specs.declared.operation.Operation.{Operation}
 use Rattle.sbp_journal.specs.declared.operation.Operation.TheVariants as operations
-use Rattle.sbp_journal.specs.declared.operation.OpWord.{OpWord}
 use Rattle.sbp_journal.specs.declared.operation.OpWord.TheVariants as words
-use Rattle.sbp_journal.specs.declared.side.Side.{Side}
 use Rattle.sbp_journal.specs.declared.side.Side.TheVariants as sides
-use Rattle.sbp_journal.specs.Outgoings.{OutboxState, empty_outbox}
-use Rattle.sbp_session.specs.Moves.{Event, bad, conflict, goes}
-use Rattle.sbp_session.specs.Seats.{is_stuck_seat}
-use Rattle.sbp_world.specs.Sessions.Entering.{is_open}
 use Rattle.sbp_world.proofs.Sessions.Sessions.{own_write}
 use Rattle.sbp_world.proofs.Lists.LiveHears.{IsAnswered}
 

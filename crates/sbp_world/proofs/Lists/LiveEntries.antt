@@ -1,26 +1,14 @@
 -- The ORB in the place of the login or the reconnect that an initiator has under way asks for that: a login with room for its response, or the login of the host.
-use Rattle.std.proofs.Common.{arith, ◌≡◌, ◌∙◌, refl, sym, ap, subst, ℕ, ◌+◌, ◌*◌, ◌/◌, ◌%◌, ◌^◌, ◌<◌, Bool, true, false, List, Option, Some}
-use Rattle.std.proofs.lemmas.Option.{same_Some}
+use Rattle.sbp_world.proofs.Words.Std.{arith, ◌≡◌, ◌∙◌, refl, sym, ap, subst, ℕ, ◌+◌, ◌*◌, ◌/◌, ◌%◌, ◌^◌, ◌<◌, Bool, true, false, List, Option, Some, same_Some, quad}
+use Rattle.sbp_world.proofs.Words.Wire.{Action, Operation, Moment}
+use Rattle.sbp_world.proofs.Words.Target.{function_of}
+use Rattle.sbp_world.proofs.Words.Initiator.{LoginResponse, ManagementOrb, management_bytes, management_options, management_orb, bit, Running, InitiatorState}
+use Rattle.sbp_world.proofs.Words.Laws.{before_sent, Host, Underway, host_at, is_management, operation_of, management_orb_of, place_bytes, place_held}
+use Rattle.sbp_world.proofs.Words.World.{Core, operation_by, work_in, work_of, IsUnderway, underway_orb}
 use Rattle.sbp_world.proofs.Hosts.Hosted.{Cored}
-use Rattle.sbp_world.specs.Hosts.Core.{Core, operation_by, work_in, work_of}
 use Rattle.mgmt_agent.specs.declared.function.Function.TheVariants as functions
-use Rattle.mgmt_agent.specs.Statuses.{function_of}
-use Rattle.orb_layout.specs.declared.login.LoginResponse.{LoginResponse}
-use Rattle.orb_layout.specs.declared.management.ManagementOrb.{ManagementOrb}
-use Rattle.orb_layout.specs.ManagementOrbs.{management_bytes, management_options, management_orb}
-use Rattle.orb_layout.specs.Pointers.{bit}
-use Rattle.sbp_base.specs.Quadlets.{quad}
-use Rattle.sbp_initiator.specs.declared.purpose.Running.{Running}
-use Rattle.sbp_initiator.specs.declared.state.InitiatorState.{InitiatorState}
-use Rattle.sbp_journal.specs.declared.event.Action.{Action}
 use Rattle.sbp_journal.specs.declared.event.Action.TheVariants as actions
-use Rattle.sbp_journal.specs.declared.operation.Operation.{Operation}
 use Rattle.sbp_journal.specs.declared.operation.Operation.TheVariants as operations
-use Rattle.sbp_journal.specs.Run.{Moment}
-use Rattle.sbp_laws.specs.CarriedBytes.{before_sent}
-use Rattle.sbp_laws.specs.Hosts.{Host, Underway, host_at, is_management, operation_of}
-use Rattle.sbp_laws.specs.Served.{management_orb_of, place_bytes, place_held}
-use Rattle.sbp_world.specs.Lists.Underway.{IsUnderway, underway_orb}
 use Rattle.sbp_world.proofs.Lists.LiveGrants.{IsEntry}
 use Rattle.sbp_world.proofs.Common.{untrue}
 

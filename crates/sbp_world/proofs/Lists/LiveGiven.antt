@@ -1,26 +1,13 @@
 -- What laws give of the operations of the initiators at each place of a run before which lists were open as they should be.
-use Rattle.std.proofs.Common.{arith, ◌≡◌, ◌∙◌, refl, subst, ℕ, ◌+◌, ◌^◌, ◌<◌, ◌≤◌, List, [], ◌∷◌, ◌++◌, map, length, Option, Some, None}
-use Rattle.orb_layout.specs.declared.login.LoginResponse.{LoginResponse}
-use Rattle.rbc_disk.specs.Disk.{Disk}
-use Rattle.sbp_journal.specs.declared.note.Note.{Note}
-use Rattle.sbp_journal.specs.Run.{Moment, asked, said}
-use Rattle.sbp_laws.specs.Hosts.{host_at}
-use Rattle.sbp_session.specs.Laws.{carried}
-use Rattle.sbp_world.specs.Histories.{history_of}
-use Rattle.sbp_world.specs.Runs.{Run, after, beginning}
-use Rattle.sbp_world.specs.Settling.{after_all}
-use Rattle.sbp_world.specs.Worlds.{WorldState, begun, initiator_at}
-use Rattle.sbp_world.specs.Hosts.Carrying.{NoneInjected}
-use Rattle.sbp_world.specs.Hosts.Runs.{IsRun, more_deliveries}
+use Rattle.sbp_world.proofs.Words.Std.{arith, ◌≡◌, ◌∙◌, refl, subst, ℕ, ◌+◌, ◌^◌, ◌<◌, ◌≤◌, List, [], ◌∷◌, ◌++◌, map, length, Option, Some, None}
+use Rattle.sbp_world.proofs.Words.Wire.{Note, Moment, asked, said}
+use Rattle.sbp_world.proofs.Words.Target.{Disk}
+use Rattle.sbp_world.proofs.Words.Initiator.{LoginResponse, carried}
+use Rattle.sbp_world.proofs.Words.Laws.{host_at}
+use Rattle.sbp_world.proofs.Words.World.{history_of, Run, after, beginning, after_all, WorldState, begun, initiator_at, NoneInjected, IsRun, more_deliveries, HoldingLaw, IsInPlace, IsManaged, ManagingLaw, IsCalm, AreShort, HasShortOrb, AreUnderway, OperationsLast, UnderwayLaw}
 use Rattle.sbp_world.proofs.Hosts.Carrying.{carries_law}
 use Rattle.sbp_world.proofs.Hosts.Runs.{count_after, count_between}
-use Rattle.sbp_world.specs.Sessions.Holding.{HoldingLaw}
 use Rattle.sbp_world.proofs.Sessions.HoldingRuns.{holding_law}
-use Rattle.sbp_world.specs.Lists.InPlace.{IsInPlace}
-use Rattle.sbp_world.specs.Lists.Managing.{IsManaged, ManagingLaw}
-use Rattle.sbp_world.specs.Lists.Needs.{IsCalm}
-use Rattle.sbp_world.specs.Lists.Shorts.{AreShort, HasShortOrb}
-use Rattle.sbp_world.specs.Lists.Underway.{AreUnderway, OperationsLast, UnderwayLaw}
 use Rattle.sbp_world.proofs.Lists.Courses.{EveryPlace}
 use Rattle.sbp_world.proofs.Lists.ManageMoments.{Hands}
 use Rattle.sbp_world.proofs.Lists.ManageRuns.{HandsLaw, managing_by}

@@ -1,16 +1,12 @@
 -- In a turn of a run in which no initiator injected packets, or few logins were given: where a status of 00 is got for a login its buffer holds a response with the agent of a
 -- place, which names a login of the initiator, and each status that is got for a logout is 00.
-use Rattle.std.proofs.Common.{sym, subst, ℕ, ◌<◌, List, length}
-use Rattle.rbc_disk.specs.Disk.{Disk}
-use Rattle.sbp_journal.specs.Run.{Moment}
-use Rattle.sbp_laws.specs.Turns.{EachMoment}
-use Rattle.sbp_world.specs.Worlds.{Scene, initiator_at}
+use Rattle.sbp_world.proofs.Words.Std.{sym, subst, ℕ, ◌<◌, List, length}
+use Rattle.sbp_world.proofs.Words.Wire.{Moment}
+use Rattle.sbp_world.proofs.Words.Target.{Disk}
+use Rattle.sbp_world.proofs.Words.Laws.{EachMoment}
+use Rattle.sbp_world.proofs.Words.World.{Scene, initiator_at, GoodAt, NoBadAt, IsCalmBeside, OursAt, OwnBy, OwnedAt, BasedAt, HasBase}
 use Rattle.sbp_world.proofs.Agents.Management.Holding.{Holding}
 use Rattle.sbp_world.proofs.Agents.Management.Still.{hist}
-use Rattle.sbp_world.specs.Lists.LoginAnswers.{GoodAt, NoBadAt}
-use Rattle.sbp_world.specs.Lists.FewLogins.{IsCalmBeside}
-use Rattle.sbp_world.specs.Lists.Owners.{OursAt, OwnBy, OwnedAt}
-use Rattle.sbp_world.specs.Lists.Placings.{BasedAt, HasBase}
 use Rattle.sbp_world.proofs.Lists.Courses.{Goes}
 use Rattle.sbp_world.proofs.Lists.Gots.{Next}
 use Rattle.sbp_world.proofs.Lists.Judging.{counts_at, goes_next}

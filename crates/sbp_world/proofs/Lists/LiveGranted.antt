@@ -1,45 +1,23 @@
 -- What a status of 00 grants of an entry stands at each turn of a run in which no initiator injected packets, or few logins were given.
-use Rattle.std.proofs.Common.{arith, ◌≡◌, ◌∙◌, refl, sym, ap, subst, ◌⊎◌, inl, inr, ℕ, suc, ◌<◌, ◌≤◌, Bool, true, false, List, ◌∷◌, ◌++◌, map, length, Option, Some, None}
-use Rattle.bus_transactions.specs.Packets.{SerialsCount}
+use Rattle.sbp_world.proofs.Words.Std.{arith, ◌≡◌, ◌∙◌, refl, sym, ap, subst, ◌⊎◌, inl, inr, ℕ, suc, ◌<◌, ◌≤◌, Bool, true, false, List, ◌∷◌, ◌++◌, map, length, Option, Some, None}
+use Rattle.sbp_world.proofs.Words.Wire.{SerialsCount, Note, Moment, said, Sending, Terms, terms}
+use Rattle.sbp_world.proofs.Words.Target.{Login, Table, place_at, Managed, Disk, NodeState}
+use Rattle.sbp_world.proofs.Words.Initiator.{start_of, LoginResponse, login_response, Running, InitiatorState, response_of, is_stuck_seat}
+use Rattle.sbp_world.proofs.Words.Laws.{host_at, is_management, target_at}
+use Rattle.sbp_world.proofs.Words.World.{Scene, WorldState, initiator_at, Stands, AreAsked, WasAsked, IsCalmBeside, HasLogin, LivesWith, OwnBy, HasBase, IsActive, IsTaken, IsTold}
 use Rattle.sbp_world.proofs.Wire.Bus.{holds}
 use Rattle.bus_memory.specs.declared.window.Window.TheVariants as windows
-use Rattle.bus_memory.specs.Windows.{start as start_of}
 use Rattle.sbp_world.proofs.Hosts.Hosted.{Cored, expires_fit, hears_fit}
 use Rattle.sbp_world.proofs.Hosts.Remaining.{remains}
 use Rattle.sbp_world.proofs.Hosts.SentMoments.{count_now, serials_from}
-use Rattle.login_table.specs.declared.login.Login.{Login}
-use Rattle.login_table.specs.Table.{Table, place_at}
-use Rattle.mgmt_agent.specs.declared.operation.Operation.{Operation as Managed}
 use Rattle.mgmt_agent.specs.Machine.{Machine}
-use Rattle.orb_layout.specs.declared.login.LoginResponse.{LoginResponse}
-use Rattle.orb_layout.specs.LoginResponses.{login_response}
-use Rattle.rbc_disk.specs.Disk.{Disk}
-use Rattle.sbp_initiator.specs.declared.purpose.Running.{Running}
-use Rattle.sbp_initiator.specs.declared.state.InitiatorState.{InitiatorState}
-use Rattle.sbp_initiator.specs.Effects.{response_of}
-use Rattle.sbp_journal.specs.declared.note.Note.{Note}
 use Rattle.sbp_journal.specs.declared.note.Note.TheVariants as notes
 use Rattle.sbp_journal.specs.declared.operation.Operation.TheVariants as operations
-use Rattle.sbp_journal.specs.Run.{Moment, said}
-use Rattle.sbp_journal.specs.Transactions.{Sending}
-use Rattle.sbp_journal.specs.Wire.{Terms, terms}
-use Rattle.sbp_laws.specs.Hosts.{host_at, is_management}
-use Rattle.sbp_laws.specs.Targets.{target_at}
-use Rattle.sbp_session.specs.Seats.{is_stuck_seat}
-use Rattle.sbp_target.specs.Nodes.{NodeState}
-use Rattle.sbp_world.specs.Worlds.{Scene, WorldState, initiator_at}
-use Rattle.sbp_world.specs.Wire.Wires.{Stands}
 use Rattle.sbp_world.proofs.Agents.Management.Holding.{Holding, past_terms}
 use Rattle.sbp_world.proofs.Agents.Management.Still.{hist}
 use Rattle.sbp_world.proofs.Sessions.Turns.{wire_generation}
-use Rattle.sbp_world.specs.Lists.Contents.{AreAsked, WasAsked}
-use Rattle.sbp_world.specs.Lists.FewLogins.{IsCalmBeside}
-use Rattle.sbp_world.specs.Lists.Live.{HasLogin}
-use Rattle.sbp_world.specs.Lists.Owners.{LivesWith, OwnBy}
-use Rattle.sbp_world.specs.Lists.Placings.{HasBase}
 use Rattle.sbp_world.proofs.Lists.IdsOwned.{own_on}
 use Rattle.sbp_world.proofs.Lists.KeptTurns.{id_is}
-use Rattle.sbp_world.specs.Lists.Tellings.{IsActive, IsTaken, IsTold}
 use Rattle.sbp_world.proofs.Lists.Courses.{Goes}
 use Rattle.sbp_world.proofs.Lists.Judging.{counts_at, goes_next, grown}
 use Rattle.sbp_world.proofs.Lists.LiveActs.{Acted, act_acts, begins, idle, moves}

@@ -1,45 +1,22 @@
 -- What a status block with status 00 grants that waits for the login or the reconnect which an initiator has under way: a live login of its node, under the ID that the
 -- response in its buffer names, with the base of the agent of a place; or that of the login which its host has. So it is from the decision on.
-use Rattle.std.proofs.Common.{arith, ◌≡◌, ◌∙◌, refl, sym, ap, subst, ◌⊎◌, inl, inr, ℕ, ◌^◌, ◌<◌, ◌≤◌, ◌==◌, nat_eq, Bool, true, false, List, length, take, Option, Some, None}
-use Rattle.std.proofs.lemmas.Bool.Decides.{nat_tests}
-use Rattle.async_packet.specs.Labels.{LabelParts}
-use Rattle.async_packet.specs.Packet.{Packet}
+use Rattle.sbp_world.proofs.Words.Std.{arith, ◌≡◌, ◌∙◌, refl, sym, ap, subst, ◌⊎◌, inl, inr, ℕ, ◌^◌, ◌<◌, ◌≤◌, ◌==◌, nat_eq, Bool, true, false, List, length, take, Option, Some, None, nat_tests}
+use Rattle.sbp_world.proofs.Words.Wire.{LabelParts, Packet, judging_step, of_response}
+use Rattle.sbp_world.proofs.Words.Target.{Login, IsTable, Table, entered, Response, Operation, Status, agent_base, asked_by, decide, granted_hold, response_bytes, Enters, Returns, cut_response, status_block, function_of, NodeState, answer_in}
+use Rattle.sbp_world.proofs.Words.Initiator.{start_of, LoginResponse, ManagementOrb, login_bytes, login_response, write_failure, Running, InitiatorState, response_of}
+use Rattle.sbp_world.proofs.Words.World.{AreSame, is_written, HasLogin, HasBase}
 use Rattle.bus_memory.specs.declared.window.Window.TheVariants as windows
-use Rattle.bus_memory.specs.Windows.{start as start_of}
-use Rattle.label_table.specs.Layer.{judging_step, of_response}
-use Rattle.login_table.specs.declared.login.Login.{Login}
-use Rattle.login_table.specs.Sound.{IsTable}
-use Rattle.login_table.specs.Table.{Table, entered}
 use Rattle.mgmt_agent.proofs.Doing.{effects_of_decisions}
 use Rattle.mgmt_agent.proofs.Outcomes.{refusals_do_nothing}
 use Rattle.mgmt_agent.specs.declared.decision.Outcome.{Outcome}
-use Rattle.mgmt_agent.specs.declared.decision.Response.{Response}
 use Rattle.mgmt_agent.specs.declared.decision.Response.TheVariants as responses
 use Rattle.mgmt_agent.specs.declared.function.Function.TheVariants as functions
-use Rattle.mgmt_agent.specs.declared.operation.Operation.{Operation}
 use Rattle.mgmt_agent.specs.declared.operation.Phase.TheVariants as phases
-use Rattle.mgmt_agent.specs.declared.status.Status.{Status}
 use Rattle.mgmt_agent.specs.declared.status.Status.TheVariants as statuses
-use Rattle.mgmt_agent.specs.Decisions.{agent_base, asked_by, decide, granted_hold, response_bytes}
-use Rattle.mgmt_agent.specs.Effects.{Enters, Returns}
-use Rattle.mgmt_agent.specs.Machine.{Machine, cut_response, status_block}
-use Rattle.mgmt_agent.specs.Statuses.{function_of}
-use Rattle.orb_layout.specs.declared.login.LoginResponse.{LoginResponse}
-use Rattle.orb_layout.specs.declared.management.ManagementOrb.{ManagementOrb}
-use Rattle.orb_layout.specs.LoginResponses.{login_bytes, login_response}
-use Rattle.orb_layout.specs.Replies.{write_failure}
-use Rattle.sbp_initiator.specs.declared.purpose.Running.{Running}
-use Rattle.sbp_initiator.specs.declared.state.InitiatorState.{InitiatorState}
-use Rattle.sbp_initiator.specs.Effects.{response_of}
+use Rattle.mgmt_agent.specs.Machine.{Machine}
 use Rattle.sbp_journal.specs.declared.operation.Operation.TheVariants as operations
 use Rattle.sbp_target.specs.declared.purpose.Purpose.TheVariants as purposes
-use Rattle.sbp_target.specs.Nodes.{NodeState}
-use Rattle.sbp_target.specs.Receiving.{answer_in}
-use Rattle.sbp_world.specs.Sessions.Standing.{AreSame}
-use Rattle.sbp_world.specs.Sessions.Writing.{is_written}
 use Rattle.sbp_world.proofs.Sessions.Logins.{decides as others_stand, same}
-use Rattle.sbp_world.specs.Lists.Live.{HasLogin}
-use Rattle.sbp_world.specs.Lists.Placings.{HasBase}
 use Rattle.sbp_world.proofs.Lists.LiveBlocks.{none_zero, same_status}
 use Rattle.sbp_world.proofs.Lists.LiveCalls.{HasLogins, HasOperation, StandsStill, answered, replies, starts, stays, untouched}
 use Rattle.sbp_world.proofs.Lists.LiveReplies.{IsDecidedOn, Logged, WritesFirst, decides, granted, reads, responds, stands}

@@ -1,26 +1,17 @@
 -- What one management operation of an initiator being in hand says of the target of a world.
-use Rattle.std.proofs.Common.{arith, ◌≡◌, ◌∙◌, refl, sym, ap, ℕ, suc, ◌<◌, Bool, true, false, List, length, Option, Some, None}
+use Rattle.sbp_world.proofs.Words.Std.{arith, ◌≡◌, ◌∙◌, refl, sym, ap, ℕ, suc, ◌<◌, Bool, true, false, List, length, Option, Some, None}
+use Rattle.sbp_world.proofs.Words.Wire.{Moment}
+use Rattle.sbp_world.proofs.Words.Target.{Managed, Disk}
+use Rattle.sbp_world.proofs.Words.Initiator.{start_of, Running, Seat, is_stuck_seat}
+use Rattle.sbp_world.proofs.Words.Laws.{Underway, host_at, is_management, is_stuck}
+use Rattle.sbp_world.proofs.Words.World.{Core, operation_by, session_in, work_in, work_of, WorldState, initiator_at, is_written, HasGivenUp, IsHandling, IsManaged, IsTold}
 use Rattle.bus_memory.specs.declared.window.Window.TheVariants as windows
-use Rattle.bus_memory.specs.Windows.{start as start_of}
 use Rattle.sbp_world.proofs.Hosts.Hosted.{Cored}
-use Rattle.sbp_world.specs.Hosts.Core.{Core, operation_by, session_in, work_in, work_of}
-use Rattle.mgmt_agent.specs.declared.operation.Operation.{Operation as Managed}
 use Rattle.mgmt_agent.specs.Machine.{Machine}
-use Rattle.rbc_disk.specs.Disk.{Disk}
-use Rattle.sbp_initiator.specs.declared.purpose.Running.{Running}
-use Rattle.sbp_journal.specs.Run.{Moment}
-use Rattle.sbp_laws.specs.Hosts.{Underway, host_at, is_management, is_stuck}
-use Rattle.sbp_session.specs.declared.seat.Seat.{Seat}
 use Rattle.sbp_session.specs.declared.seat.Seat.TheVariants as seats
-use Rattle.sbp_session.specs.Seats.{is_stuck_seat}
-use Rattle.sbp_world.specs.Worlds.{WorldState, initiator_at}
 use Rattle.sbp_world.proofs.Agents.Management.Holding.{Holding, known_id}
 use Rattle.sbp_world.proofs.Agents.Management.Still.{hist}
-use Rattle.sbp_world.specs.Sessions.Writing.{is_written}
 use Rattle.sbp_world.proofs.Sessions.Turns.{wire_generation}
-use Rattle.sbp_world.specs.Lists.Live.{HasGivenUp}
-use Rattle.sbp_world.specs.Lists.Managing.{IsHandling, IsManaged}
-use Rattle.sbp_world.specs.Lists.Tellings.{IsTold}
 use Rattle.sbp_world.proofs.Lists.LiveOwn.{in_hand}
 use Rattle.sbp_world.proofs.Lists.LiveSteps.{GaveUpOf, id_in, own_of, zero_of}
 use Rattle.sbp_world.proofs.Lists.LiveTaken.{IsOwnHandled, handled, handled_silent}

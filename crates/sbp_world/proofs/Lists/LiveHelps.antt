@@ -1,32 +1,14 @@
 -- The two ends go together at a turn, by what is in hand of the management at both places, and by what the turn leaves of the operation under way.
-use Rattle.std.proofs.Common.{◌≡◌, ◌∙◌, sym, ap, subst, ◌⊎◌, ℕ, ◌^◌, ◌<◌, true, List, length, Some}
+use Rattle.sbp_world.proofs.Words.Std.{◌≡◌, ◌∙◌, sym, ap, subst, ◌⊎◌, ℕ, ◌^◌, ◌<◌, true, List, length, Some}
+use Rattle.sbp_world.proofs.Words.Wire.{LabelParts, Packet, judging_step, of_response, Sent, Moment, Note}
+use Rattle.sbp_world.proofs.Words.Target.{Table, Managed, Disk, answer_in}
+use Rattle.sbp_world.proofs.Words.Initiator.{start_of, LoginResponse, management_orb, carried}
+use Rattle.sbp_world.proofs.Words.Laws.{Underway, host_at, is_management, place_bytes, place_held}
+use Rattle.sbp_world.proofs.Words.World.{WorldState, initiator_at, IsAsked, IsManaged, IsRest, IsCalm, IsInAPlace, IsActive, IsTaken, IsTold, AreUnderway, underway_orb}
 use Rattle.bus_memory.specs.declared.window.Window.TheVariants as windows
-use Rattle.bus_memory.specs.Windows.{start as start_of}
-use Rattle.async_packet.specs.Labels.{LabelParts}
-use Rattle.async_packet.specs.Packet.{Packet}
-use Rattle.label_table.specs.Layer.{judging_step, of_response}
-use Rattle.login_table.specs.Table.{Table}
-use Rattle.mgmt_agent.specs.declared.operation.Operation.{Operation as Managed}
-use Rattle.orb_layout.specs.declared.login.LoginResponse.{LoginResponse}
-use Rattle.orb_layout.specs.ManagementOrbs.{management_orb}
-use Rattle.packet_store.specs.declared.sent.Sent.{Sent}
-use Rattle.rbc_disk.specs.Disk.{Disk}
-use Rattle.sbp_journal.specs.Run.{Moment}
-use Rattle.sbp_journal.specs.declared.note.Note.{Note}
-use Rattle.sbp_laws.specs.Hosts.{Underway, host_at, is_management}
-use Rattle.sbp_laws.specs.Served.{place_bytes, place_held}
-use Rattle.sbp_session.specs.Laws.{carried}
 use Rattle.sbp_target.specs.declared.purpose.Purpose.TheVariants as purposes
-use Rattle.sbp_target.specs.Receiving.{answer_in}
-use Rattle.sbp_world.specs.Worlds.{WorldState, initiator_at}
 use Rattle.sbp_world.proofs.Agents.Management.Holding.{Holding}
 use Rattle.sbp_world.proofs.Agents.Management.Still.{hist}
-use Rattle.sbp_world.specs.Sessions.Starting.{IsAsked}
-use Rattle.sbp_world.specs.Lists.Managing.{IsManaged, IsRest}
-use Rattle.sbp_world.specs.Lists.Needs.{IsCalm}
-use Rattle.sbp_world.specs.Lists.Placings.{IsInAPlace}
-use Rattle.sbp_world.specs.Lists.Tellings.{IsActive, IsTaken, IsTold}
-use Rattle.sbp_world.specs.Lists.Underway.{AreUnderway, underway_orb}
 use Rattle.sbp_world.proofs.Lists.Courses.{EveryPlace}
 use Rattle.sbp_world.proofs.Lists.KeptRuns.{AreKeptAt, kept_everywhere}
 use Rattle.sbp_world.proofs.Lists.LiveGiven.{LawsAt}

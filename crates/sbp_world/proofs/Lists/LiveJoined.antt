@@ -1,44 +1,18 @@
 -- The logins of the node of an initiator that injected no packets, with what a status of 00 grants of its logins and reconnects, at each turn of a run in which no initiator
 -- injected packets, or few logins were given.
-use Rattle.std.proofs.Common.{◌≡◌, refl, sym, ap, subst, ℕ, ◌<◌, true, false, List, length, Some, None}
-use Rattle.async_packet.specs.Labels.{LabelParts}
-use Rattle.async_packet.specs.Packet.{Packet}
-use Rattle.sbp_world.specs.Hosts.Sources.{AllOfTarget}
-use Rattle.label_table.specs.Layer.{judging_step, of_response}
-use Rattle.mgmt_agent.specs.declared.operation.Operation.{Operation as Managed}
+use Rattle.sbp_world.proofs.Words.Std.{◌≡◌, refl, sym, ap, subst, ℕ, ◌<◌, true, false, List, length, Some, None}
+use Rattle.sbp_world.proofs.Words.Wire.{LabelParts, Packet, judging_step, of_response, Sent, Note, Moment, terms}
+use Rattle.sbp_world.proofs.Words.Target.{Managed, Disk, answer_in}
+use Rattle.sbp_world.proofs.Words.Initiator.{LoginResponse, login_response, write_failure, Running, response_of, carried, is_stuck_seat}
+use Rattle.sbp_world.proofs.Words.Laws.{Underway, host_at, is_management, EachMoment}
+use Rattle.sbp_world.proofs.Words.World.{AllOfTarget, Scene, WorldState, initiator_at, HoldsLogin, AreAsked, HasGivenUp, HasLogin, IsRest, IsCalm, IsCalmBeside, BufferSo, IsInBuffer, IsTaken, IsTold}
 use Rattle.mgmt_agent.specs.declared.operation.Phase.TheVariants as phases
-use Rattle.orb_layout.specs.declared.login.LoginResponse.{LoginResponse}
-use Rattle.orb_layout.specs.LoginResponses.{login_response}
-use Rattle.orb_layout.specs.Replies.{write_failure}
-use Rattle.packet_store.specs.declared.sent.Sent.{Sent}
-use Rattle.rbc_disk.specs.Disk.{Disk}
-use Rattle.sbp_initiator.specs.declared.purpose.Running.{Running}
-use Rattle.sbp_initiator.specs.Effects.{response_of}
-use Rattle.sbp_journal.specs.declared.note.Note.{Note}
 use Rattle.sbp_journal.specs.declared.operation.Operation.TheVariants as operations
-use Rattle.sbp_journal.specs.Run.{Moment}
-use Rattle.sbp_journal.specs.Wire.{terms}
-use Rattle.sbp_laws.specs.Hosts.{Underway, host_at, is_management}
-use Rattle.sbp_laws.specs.Turns.{EachMoment}
-use Rattle.sbp_session.specs.Laws.{carried}
-use Rattle.sbp_session.specs.Seats.{is_stuck_seat}
 use Rattle.sbp_target.specs.declared.purpose.Purpose.TheVariants as purposes
-use Rattle.sbp_target.specs.Receiving.{answer_in}
-use Rattle.sbp_world.specs.Worlds.{Scene, WorldState, initiator_at}
 use Rattle.sbp_world.proofs.Wire.Starts.{laws_of}
 use Rattle.sbp_world.proofs.Agents.Management.Holding.{Holding}
 use Rattle.sbp_world.proofs.Agents.Management.Still.{hist}
-use Rattle.sbp_world.specs.Sessions.Holding.{HoldsLogin}
-use Rattle.sbp_world.specs.Lists.Contents.{AreAsked}
-use Rattle.sbp_world.specs.Lists.Live.{HasGivenUp, HasLogin}
-use Rattle.sbp_world.specs.Lists.Managing.{IsRest}
-use Rattle.sbp_world.specs.Lists.Needs.{IsCalm}
-use Rattle.sbp_world.specs.Lists.FewLogins.{IsCalmBeside}
 use Rattle.sbp_world.proofs.Lists.Beside.{AreDone}
-use Rattle.sbp_world.specs.Lists.Responding.{BufferSo}
-use Rattle.sbp_world.specs.Lists.Stored.{IsInBuffer}
-use Rattle.sbp_world.specs.Lists.Tellings.{IsTaken, IsTold}
-use Rattle.sbp_world.specs.Sessions.Holding.{HoldsLogin}
 use Rattle.sbp_world.proofs.Lists.Courses.{Goes}
 use Rattle.sbp_world.proofs.Lists.GrantedRuns.{AreGranted}
 use Rattle.sbp_world.proofs.Lists.Judging.{counts_at}

@@ -1,32 +1,15 @@
 -- Each turn keeps what is carried of the logins of an initiator's node.
-use Rattle.std.proofs.Common.{arith, ◌≡◌, ◌∙◌, refl, sym, ap, subst, ◌⊎◌, inl, inr, ℕ, suc, ◌<◌, ◌≤◌, Bool, true, false, List, length, Option, Some, None}
+use Rattle.sbp_world.proofs.Words.Std.{arith, ◌≡◌, ◌∙◌, refl, sym, ap, subst, ◌⊎◌, inl, inr, ℕ, suc, ◌<◌, ◌≤◌, Bool, true, false, List, length, Option, Some, None}
+use Rattle.sbp_world.proofs.Words.Wire.{judging_step, Sent, found_sent, empty_outbox, Note, Moment}
+use Rattle.sbp_world.proofs.Words.Target.{is_live, Managed, Disk, NodeState, login_at, scene, received, whole}
+use Rattle.sbp_world.proofs.Words.Initiator.{Running, InitiatorState, receive_step, Seat, is_stuck_seat}
+use Rattle.sbp_world.proofs.Words.World.{WorldState, initiator_at, HasNone, IsCalmBeside, IsActive, IsTaken, IsTold}
 use Rattle.sbp_world.proofs.Hosts.Hosted.{expires_fit, hears_fit}
 use Rattle.sbp_world.proofs.Hosts.KnowHears.{IfFits}
-use Rattle.label_table.specs.Layer.{judging_step}
-use Rattle.login_table.specs.Table.{is_live}
-use Rattle.mgmt_agent.specs.declared.operation.Operation.{Operation as Managed}
-use Rattle.packet_store.specs.declared.sent.Sent.{Sent}
-use Rattle.packet_store.specs.Kept.{found_sent}
-use Rattle.rbc_disk.specs.Disk.{Disk}
-use Rattle.sbp_initiator.specs.declared.purpose.Running.{Running}
-use Rattle.sbp_initiator.specs.declared.state.InitiatorState.{InitiatorState}
-use Rattle.sbp_initiator.specs.Receiving.{receive_step}
-use Rattle.sbp_journal.specs.Outgoings.{empty_outbox}
-use Rattle.sbp_journal.specs.declared.note.Note.{Note}
-use Rattle.sbp_journal.specs.Run.{Moment}
-use Rattle.sbp_session.specs.declared.seat.Seat.{Seat}
 use Rattle.sbp_session.specs.declared.seat.Seat.TheVariants as seats
-use Rattle.sbp_session.specs.Seats.{is_stuck_seat}
-use Rattle.sbp_target.specs.Nodes.{NodeState, login_at, scene}
-use Rattle.sbp_target.specs.Receiving.{received}
-use Rattle.sbp_target.specs.Replies.{whole}
-use Rattle.sbp_world.specs.Worlds.{WorldState, initiator_at}
 use Rattle.sbp_target.proofs.Histories.Calling.{Good}
 use Rattle.sbp_world.proofs.Agents.Management.Holding.{Holding}
 use Rattle.sbp_world.proofs.Sessions.Caught.{is_in}
-use Rattle.sbp_world.specs.Lists.Live.{HasNone}
-use Rattle.sbp_world.specs.Lists.FewLogins.{IsCalmBeside}
-use Rattle.sbp_world.specs.Lists.Tellings.{IsActive, IsTaken, IsTold}
 use Rattle.sbp_world.proofs.Lists.LiveActs.{Acted, act_acts, begins, idle, moves}
 use Rattle.sbp_world.proofs.Lists.LiveAims.{Aims, acted_aims, aims_none, moved_aims}
 use Rattle.sbp_world.proofs.Lists.LiveCalls.{HasLogins, HasOperation, delivery_logins, delivery_operation}

@@ -1,37 +1,19 @@
 -- What is known of the logins of an initiator's node, by the history and the session.
-use Rattle.std.proofs.Common.{arith, ◌≡◌, ◌∙◌, refl, sym, ap, subst, ◌⊎◌, inl, inr, ℕ, suc, ◌<◌, ◌≤◌, Bool, true, false, List, ◌∷◌, ◌++◌, map, length, Option, Some, None}
+use Rattle.sbp_world.proofs.Words.Std.{arith, ◌≡◌, ◌∙◌, refl, sym, ap, subst, ◌⊎◌, inl, inr, ℕ, suc, ◌<◌, ◌≤◌, Bool, true, false, List, ◌∷◌, ◌++◌, map, length, Option, Some, None}
+use Rattle.sbp_world.proofs.Words.Wire.{Event, Moment, asked, said, Terms, terms}
+use Rattle.sbp_world.proofs.Words.Target.{Login, Disk, Told}
+use Rattle.sbp_world.proofs.Words.Initiator.{LoginResponse, Running, Seat, is_stuck_seat}
+use Rattle.sbp_world.proofs.Words.Laws.{Underway, host_at, is_management, is_stuck, id_for}
+use Rattle.sbp_world.proofs.Words.World.{Core, operation_by, session_in, work_in, work_of, IsRun, more_deliveries, history_of, ready_logins, Run, after, beginning, MayAll, after_all, Scene, WorldState, begun, initiator_at, DeliversMore, joined_with, HasGivenUp, HasLogin, HasNone, IsLive, LiveLaw, is_apart, OpenBefore, OpenBetween, IsCalmBeside}
 use Rattle.sbp_world.proofs.Hosts.Hosted.{Cored}
-use Rattle.sbp_world.specs.Hosts.Core.{Core, operation_by, session_in, work_in, work_of}
-use Rattle.sbp_world.specs.Hosts.Runs.{IsRun, more_deliveries}
-use Rattle.login_table.specs.declared.login.Login.{Login}
 use Rattle.mgmt_agent.specs.Machine.{Machine}
-use Rattle.orb_layout.specs.declared.login.LoginResponse.{LoginResponse}
-use Rattle.rbc_disk.specs.Disk.{Disk}
-use Rattle.rbc_disk.specs.Runs.{Told}
-use Rattle.sbp_initiator.specs.declared.purpose.Running.{Running}
-use Rattle.sbp_journal.specs.declared.event.Event.{Event}
-use Rattle.sbp_journal.specs.Run.{Moment, asked, said}
-use Rattle.sbp_journal.specs.Wire.{Terms, terms}
-use Rattle.sbp_laws.specs.Hosts.{Underway, host_at, is_management, is_stuck}
-use Rattle.sbp_laws.specs.Packets.{id_for}
-use Rattle.sbp_session.specs.declared.seat.Seat.{Seat}
 use Rattle.sbp_session.specs.declared.seat.Seat.TheVariants as seats
-use Rattle.sbp_session.specs.Seats.{is_stuck_seat}
-use Rattle.sbp_world.specs.Histories.{history_of}
-use Rattle.sbp_world.specs.Making.{ready_logins}
-use Rattle.sbp_world.specs.Runs.{Run, after, beginning}
-use Rattle.sbp_world.specs.Settling.{MayAll, after_all}
-use Rattle.sbp_world.specs.Worlds.{Scene, WorldState, begun, initiator_at}
-use Rattle.sbp_world.specs.Agents.Management.Terms.{DeliversMore}
 use Rattle.sbp_world.proofs.Agents.Management.Holding.{Holding, known_id}
 use Rattle.sbp_world.proofs.Agents.Management.Lines.{all_heard, opens}
 use Rattle.sbp_world.proofs.Agents.Management.Runs.{holds_after, no_repeats, not_reset}
 use Rattle.sbp_world.proofs.Agents.Management.Still.{hist}
-use Rattle.sbp_world.specs.Sessions.Entering.{joined_with}
 use Rattle.sbp_world.proofs.Sessions.Turns.{wire_generation}
-use Rattle.sbp_world.specs.Lists.Live.{AreLive, HasGivenUp, HasLogin, HasNone, IsLive, LiveLaw, is_apart}
-use Rattle.sbp_world.specs.Lists.Needs.{OpenBefore, OpenBetween}
-use Rattle.sbp_world.specs.Lists.FewLogins.{IsCalmBeside}
+use Rattle.sbp_world.specs.Lists.Live.{AreLive}
 use Rattle.sbp_world.proofs.Lists.Courses.{EveryPlace, more_than_one}
 use Rattle.sbp_world.proofs.Lists.LiveOwn.{in_hand}
 use Rattle.sbp_world.proofs.Lists.LiveRuns.{AllLive, GrownBy, HelpedBy, Known, all_after, all_between, known_everywhere}

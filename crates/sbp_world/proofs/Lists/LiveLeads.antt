@@ -1,29 +1,18 @@
 -- What is in hand of an initiator's management over the notes of a turn of the target: the write of the operation under way goes on, and what is at rest stays so,
 -- unless the turn begins with the packet by which the target starts an operation; and a status block that waits was there before, or is what the target writes now.
-use Rattle.std.proofs.Common.{arith, ◌≡◌, ◌∙◌, refl, sym, ap, subst, ◌⊎◌, inl, inr, ℕ, zero, suc, ◌<◌, nat_eq, Bool, true, false, cond, List, [], ◌∷◌, ◌++◌, map, Some, None}
-use Rattle.std.proofs.lemmas.Bool.Decides.{nat_tests}
+use Rattle.sbp_world.proofs.Words.Std.{arith, ◌≡◌, ◌∙◌, refl, sym, ap, subst, ◌⊎◌, inl, inr, ℕ, zero, suc, ◌<◌, nat_eq, Bool, true, false, cond, List, [], ◌∷◌, ◌++◌, map, Some, None, nat_tests}
+use Rattle.sbp_world.proofs.Words.Wire.{Moment, asked, said, Sending, Transaction, begun_by, terms, Event, Note}
+use Rattle.sbp_world.proofs.Words.Target.{Operation, Disk}
+use Rattle.sbp_world.proofs.Words.Initiator.{start_of}
+use Rattle.sbp_world.proofs.Words.Laws.{host_at, id_for, target_at}
+use Rattle.sbp_world.proofs.Words.World.{Office, IsAccepted, IsAsking, IsHandling, IsOwnWrite, IsRest, IsTelling, AllOf, outgoing_for}
 use Rattle.bus_memory.specs.declared.window.Window.TheVariants as windows
-use Rattle.bus_memory.specs.Windows.{start as start_of}
 use Rattle.bus_transactions.proofs.Facts.{asked_is, begun_asked}
-use Rattle.mgmt_agent.specs.declared.operation.Operation.{Operation}
 use Rattle.mgmt_agent.specs.declared.operation.Phase.TheVariants as phases
 use Rattle.mgmt_agent.specs.Machine.{Machine}
-use Rattle.rbc_disk.specs.Disk.{Disk}
-use Rattle.sbp_journal.specs.Run.{Moment, asked, said}
-use Rattle.sbp_journal.specs.Transactions.{Sending, Transaction, begun_by}
-use Rattle.sbp_journal.specs.Wire.{terms}
-use Rattle.sbp_journal.specs.declared.event.Event.{Event}
-use Rattle.sbp_journal.specs.declared.note.Note.{Note}
 use Rattle.sbp_journal.specs.declared.note.Note.TheVariants as notes
-use Rattle.sbp_laws.specs.Hosts.{host_at}
-use Rattle.sbp_laws.specs.Packets.{id_for}
-use Rattle.sbp_laws.specs.Targets.{target_at}
-use Rattle.sbp_world.specs.Agents.Management.Offices.{Office}
 use Rattle.sbp_world.proofs.Agents.Management.Firsts.{opened_office}
 use Rattle.sbp_world.proofs.Hosts.SentMoments.{sent_below}
-use Rattle.sbp_world.specs.Lists.Managing.{IsAccepted, IsAsking, IsHandling, IsOwnWrite, IsRest, IsTelling}
-use Rattle.sbp_world.specs.Lists.Opened.{AllOf}
-use Rattle.sbp_world.specs.Lists.Tellings.{outgoing_for}
 use Rattle.sbp_world.proofs.Lists.LiveTold.{IsFirst, is_behind, is_own_packet}
 use Rattle.sbp_world.proofs.Lists.ManageFirsts.{Goes, goes_then, note_first, other_first, same_goes}
 use Rattle.sbp_world.proofs.Lists.ManageGot.{GotFacts, asked_for, calm_by, gets_other, still_accepted}

@@ -1,10 +1,7 @@
 -- The logins of the initiators' nodes, the logouts, and the responses of logins, in every run in which no initiator injected packets, or few logins were given, and before which lists were open as
 -- they should be.
-use Rattle.std.proofs.Common.{ℕ, ◌<◌, length}
-use Rattle.sbp_world.specs.Lists.Closes.{Under, WhereTameOrFew}
-use Rattle.sbp_world.specs.Lists.FewLogins.{IsCalmBeside}
-use Rattle.sbp_world.specs.Lists.Live.{LiveLaw}
-use Rattle.sbp_world.specs.Lists.Opened.{NoneRefused}
+use Rattle.sbp_world.proofs.Words.Std.{ℕ, ◌<◌, length}
+use Rattle.sbp_world.proofs.Words.World.{Under, WhereTameOrFew, IsCalmBeside, LiveLaw, NoneRefused}
 use Rattle.sbp_world.proofs.Lists.BufferClears.{buffers_held}
 use Rattle.sbp_world.proofs.Lists.Courses.{EveryPlace}
 use Rattle.sbp_world.proofs.Lists.LiveGiven.{LawsAt, ShortLaw, laws_of}

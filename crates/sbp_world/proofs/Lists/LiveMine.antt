@@ -1,21 +1,12 @@
 -- The ORB in the place of the operation that an initiator has under way is as its session stands.
-use Rattle.std.proofs.Common.{◌≡◌, ◌∙◌, refl, sym, ap, ◌⊎◌, inl, inr, ℕ, ◌^◌, ◌<◌, Bool, true, List, Option, Some, None}
+use Rattle.sbp_world.proofs.Words.Std.{◌≡◌, ◌∙◌, refl, sym, ap, ◌⊎◌, inl, inr, ℕ, ◌^◌, ◌<◌, Bool, true, List, Option, Some, None}
+use Rattle.sbp_world.proofs.Words.Wire.{Operation, Moment}
+use Rattle.sbp_world.proofs.Words.Initiator.{LoginResponse, management_orb, Running, InitiatorState, Origin, Seat, carried}
+use Rattle.sbp_world.proofs.Words.Laws.{Underway, host_at, is_management, place_bytes, place_held}
+use Rattle.sbp_world.proofs.Words.World.{Core, operation_by, work_in, work_of, IsUnderway, underway_orb}
 use Rattle.sbp_world.proofs.Hosts.Hosted.{Cored}
-use Rattle.sbp_world.specs.Hosts.Core.{Core, operation_by, work_in, work_of}
-use Rattle.orb_layout.specs.declared.login.LoginResponse.{LoginResponse}
-use Rattle.orb_layout.specs.ManagementOrbs.{management_orb}
-use Rattle.sbp_initiator.specs.declared.purpose.Running.{Running}
-use Rattle.sbp_initiator.specs.declared.state.InitiatorState.{InitiatorState}
-use Rattle.sbp_journal.specs.declared.operation.Operation.{Operation}
-use Rattle.sbp_journal.specs.Run.{Moment}
-use Rattle.sbp_laws.specs.Hosts.{Underway, host_at, is_management}
-use Rattle.sbp_laws.specs.Served.{place_bytes, place_held}
-use Rattle.sbp_session.specs.declared.seat.Origin.{Origin}
 use Rattle.sbp_session.specs.declared.seat.Origin.TheVariants as origins
-use Rattle.sbp_session.specs.declared.seat.Seat.{Seat}
 use Rattle.sbp_session.specs.declared.seat.Seat.TheVariants as seats
-use Rattle.sbp_session.specs.Laws.{carried}
-use Rattle.sbp_world.specs.Lists.Underway.{IsUnderway, underway_orb}
 use Rattle.sbp_world.proofs.Lists.LiveAims.{Aims}
 use Rattle.sbp_world.proofs.Lists.LiveOrbs.{orb_mine}
 use Rattle.sbp_world.proofs.Lists.LiveOwn.{Fit, GaveUp, enters, is_entry, is_exit, quits}

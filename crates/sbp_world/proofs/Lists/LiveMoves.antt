@@ -1,38 +1,17 @@
 -- What the end of a transaction and a status block make of an initiator's session and of its operation under way. Either both stay, but for whether an
 -- ORB_POINTER write is under way and for a session that becomes stuck; or an operation that moves no session ends; or the session is stuck and none is under way; or
 -- the operation of the session ends, by a status block of its ORB or by a conflict_error.
-use Rattle.std.proofs.Common.{arith, ◌≡◌, ◌∙◌, refl, sym, ap, ℕ, ◌==◌, nat_eq, Bool, true, false, cond, List, Option, Some, None, Result, Ok, Err}
-use Rattle.std.proofs.lemmas.Bool.Decides.{nat_tests}
-use Rattle.std.proofs.lemmas.Bool.{false≢true}
-use Rattle.config_rom.specs.declared.fault.RomFault.{RomFault}
-use Rattle.config_rom.specs.declared.unit.SbpUnit.{SbpUnit}
-use Rattle.config_rom.specs.Reading.{Tree, reading}
-use Rattle.config_rom.specs.Unit.{sbp_unit_of}
-use Rattle.initiator_base.specs.Places.{management_at}
-use Rattle.initiator_base.specs.Quads.{with_quad}
+use Rattle.sbp_world.proofs.Words.Std.{arith, ◌≡◌, ◌∙◌, refl, sym, ap, ℕ, ◌==◌, nat_eq, Bool, true, false, cond, List, Option, Some, None, Result, Ok, Err, nat_tests, false≢true}
+use Rattle.sbp_world.proofs.Words.Wire.{Asked, Layer, asking_step, Operation, OpWord, OutboxState}
+use Rattle.sbp_world.proofs.Words.Target.{RomFault, SbpUnit, Tree, reading, sbp_unit_of}
+use Rattle.sbp_world.proofs.Words.Initiator.{management_at, with_quad, ListState, drop_lists, Ending, Purpose, Running, InitiatorState, Turn, ask_quad, asked_quad, conflict_for, drop_list_step, drop_where, dropped_as, end_own_for, end_own_step, end_step, ended_for, ended_step, fail_step, fault_number, finish_rom, good_event, good_word, is_address, is_conflict, known_where, managed_step, moved, moves_session, next_quad, pointed_step, quad_got, response_of, state_told, stick_step, then_step, with_answered, with_dead, with_rom, with_unit, ends_list, counts_for, is_list, Seat, Event, bad, conflict, failed, goes, pointed, pointing, is_stuck_seat}
 use Rattle.sbp_initiator.proofs.Histories.Effects.{Fits, IsFor}
 use Rattle.sbp_initiator.proofs.Histories.Purposes.{IfFor}
-use Rattle.label_table.specs.declared.judgement.Asked.{Asked}
-use Rattle.label_table.specs.Layer.{Layer, asking_step}
-use Rattle.orb_list.specs.Lists.{ListState, drop_lists}
-use Rattle.sbp_initiator.specs.declared.purpose.Ending.{Ending}
 use Rattle.sbp_initiator.specs.declared.purpose.Ending.TheVariants as endings
-use Rattle.sbp_initiator.specs.declared.purpose.Purpose.{Purpose}
 use Rattle.sbp_initiator.specs.declared.purpose.Purpose.TheVariants as purposes
-use Rattle.sbp_initiator.specs.declared.purpose.Running.{Running}
-use Rattle.sbp_initiator.specs.declared.state.InitiatorState.{InitiatorState}
-use Rattle.sbp_initiator.specs.Effects.{Turn, ask_quad, asked_quad, conflict_for, drop_list_step, drop_where, dropped_as, end_own_for, end_own_step, end_step, ended_for, ended_step, fail_step, fault_number, finish_rom, good_event, good_word, is_address, is_conflict, known_where, managed_step, moved, moves_session, next_quad, pointed_step, quad_got, response_of, state_told, stick_step, then_step, with_answered, with_dead, with_rom, with_unit}
-use Rattle.sbp_initiator.specs.Refusals.{ends_list}
-use Rattle.sbp_initiator.specs.States.{counts_for, is_list}
-use Rattle.sbp_journal.specs.declared.operation.Operation.{Operation}
 use Rattle.sbp_journal.specs.declared.operation.Operation.TheVariants as operations
-use Rattle.sbp_journal.specs.declared.operation.OpWord.{OpWord}
 use Rattle.sbp_journal.specs.declared.operation.OpWord.TheVariants as words
-use Rattle.sbp_journal.specs.Outgoings.{OutboxState}
-use Rattle.sbp_session.specs.declared.seat.Seat.{Seat}
 use Rattle.sbp_session.specs.declared.seat.Seat.TheVariants as seats
-use Rattle.sbp_session.specs.Moves.{Event, bad, conflict, failed, goes, pointed, pointing}
-use Rattle.sbp_session.specs.Seats.{is_stuck_seat}
 use Rattle.sbp_world.proofs.Sessions.Sessions.{drop_seat}
 use Rattle.sbp_world.proofs.Lists.LiveStandings.{stand_of}
 

@@ -1,23 +1,13 @@
 -- The ORB of an operation under way is as the session says: that of a logout names the login, and what neither enters nor leaves keeps the logins.
-use Rattle.std.proofs.Common.{arith, ◌≡◌, ◌∙◌, refl, sym, ap, subst, ℕ, ◌+◌, ◌*◌, ◌/◌, ◌%◌, ◌^◌, ◌<◌, ◌≤◌, Bool, true, false, List, Some}
-use Rattle.std.proofs.lemmas.Bool.Decides.{nat_tests}
-use Rattle.std.proofs.lemmas.Option.{same_Some}
+use Rattle.sbp_world.proofs.Words.Std.{arith, ◌≡◌, ◌∙◌, refl, sym, ap, subst, ℕ, ◌+◌, ◌*◌, ◌/◌, ◌%◌, ◌^◌, ◌<◌, ◌≤◌, Bool, true, false, List, Some, nat_tests, same_Some, quad}
+use Rattle.sbp_world.proofs.Words.Wire.{Action, Operation, Moment}
+use Rattle.sbp_world.proofs.Words.Target.{function_of}
+use Rattle.sbp_world.proofs.Words.Initiator.{ManagementOrb, LoginResponse, management_bytes, management_options, management_orb, bit}
+use Rattle.sbp_world.proofs.Words.Laws.{before_sent, Host, Underway, host_at, is_management, operation_of, management_orb_of, place_bytes, place_held}
+use Rattle.sbp_world.proofs.Words.World.{IsUnderway, underway_orb}
 use Rattle.mgmt_agent.specs.declared.function.Function.TheVariants as functions
-use Rattle.mgmt_agent.specs.Statuses.{function_of}
-use Rattle.orb_layout.specs.declared.management.ManagementOrb.{ManagementOrb}
-use Rattle.orb_layout.specs.declared.login.LoginResponse.{LoginResponse}
-use Rattle.orb_layout.specs.ManagementOrbs.{management_bytes, management_options, management_orb}
-use Rattle.orb_layout.specs.Pointers.{bit}
-use Rattle.sbp_base.specs.Quadlets.{quad}
-use Rattle.sbp_journal.specs.declared.event.Action.{Action}
 use Rattle.sbp_journal.specs.declared.event.Action.TheVariants as actions
-use Rattle.sbp_journal.specs.declared.operation.Operation.{Operation}
 use Rattle.sbp_journal.specs.declared.operation.Operation.TheVariants as operations
-use Rattle.sbp_journal.specs.Run.{Moment}
-use Rattle.sbp_laws.specs.CarriedBytes.{before_sent}
-use Rattle.sbp_laws.specs.Hosts.{Host, Underway, host_at, is_management, operation_of}
-use Rattle.sbp_laws.specs.Served.{management_orb_of, place_bytes, place_held}
-use Rattle.sbp_world.specs.Lists.Underway.{IsUnderway, underway_orb}
 use Rattle.sbp_world.proofs.Lists.LiveDecides.{keeps_logins}
 use Rattle.sbp_world.proofs.Lists.LiveOwn.{enters, quits, two_ways}
 use Rattle.sbp_world.proofs.Lists.LiveStandings.{Stand, apart_leaves, comes, comes_apart, comes_inside, comes_leaves, inside_leaves, leaves}

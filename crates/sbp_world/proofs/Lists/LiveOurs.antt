@@ -1,38 +1,17 @@
 -- What a turn that is none of the target leaves of the operation that an initiator has under way, where that stays; and of one that begins: its write was not judged.
-use Rattle.std.proofs.Common.{arith, ◌≡◌, ◌∙◌, refl, sym, ap, subst, ℕ, suc, ◌<◌, nat_eq, nat_le, Bool, true, false, List, [], ◌∷◌, ◌++◌, map, length, Option, Some, None}
-use Rattle.std.proofs.lemmas.Bool.Decides.{nat_tests}
-use Rattle.bus_transactions.specs.Wire.{as_sending}
+use Rattle.sbp_world.proofs.Words.Std.{arith, ◌≡◌, ◌∙◌, refl, sym, ap, subst, ℕ, suc, ◌<◌, nat_eq, nat_le, Bool, true, false, List, [], ◌∷◌, ◌++◌, map, length, Option, Some, None, nat_tests}
+use Rattle.sbp_world.proofs.Words.Wire.{as_sending, Kept, topology_at, end_note, empty_outbox, Moment, asked, said, terms, Action, Event, Note, Operation}
+use Rattle.sbp_world.proofs.Words.Target.{Disk, Told}
+use Rattle.sbp_world.proofs.Words.Initiator.{FreeFor, act_step, Running, Turn}
+use Rattle.sbp_world.proofs.Words.Laws.{Underway, host_at, is_management, operation_of}
+use Rattle.sbp_world.proofs.Words.World.{Core, work_in, more_deliveries, acted, acted_by, happens, Scene, WorldState, initiator_at, without_notes, IsAccepted, IsManaged, IsTaken, OperationsLast}
 use Rattle.sbp_world.proofs.Hosts.Hosted.{Cored}
-use Rattle.sbp_world.specs.Hosts.Core.{Core, work_in}
-use Rattle.sbp_world.specs.Hosts.Runs.{more_deliveries}
-use Rattle.sbp_initiator.specs.Histories.Begins.{IsFree as FreeFor}
-use Rattle.packet_store.specs.declared.sent.Kept.{Kept}
-use Rattle.rbc_disk.specs.Disk.{Disk}
-use Rattle.rbc_disk.specs.Runs.{Told}
-use Rattle.sbp_bus.specs.Generations.{topology_at}
-use Rattle.sbp_bus.specs.Packets.{end_note}
-use Rattle.sbp_initiator.specs.Acting.{act_step}
-use Rattle.sbp_initiator.specs.declared.purpose.Running.{Running}
-use Rattle.sbp_initiator.specs.Effects.{Turn}
-use Rattle.sbp_journal.specs.Outgoings.{empty_outbox}
-use Rattle.sbp_journal.specs.Run.{Moment, asked, said}
-use Rattle.sbp_journal.specs.Wire.{terms}
-use Rattle.sbp_journal.specs.declared.event.Action.{Action}
-use Rattle.sbp_journal.specs.declared.event.Event.{Event}
 use Rattle.sbp_journal.specs.declared.event.Event.TheVariants as events
-use Rattle.sbp_journal.specs.declared.note.Note.{Note}
 use Rattle.sbp_journal.specs.declared.note.Note.TheVariants as notes
-use Rattle.sbp_journal.specs.declared.operation.Operation.{Operation}
-use Rattle.sbp_laws.specs.Hosts.{Underway, host_at, is_management, operation_of}
-use Rattle.sbp_world.specs.Lines.{acted, acted_by, happens}
-use Rattle.sbp_world.specs.Worlds.{Scene, WorldState, initiator_at, without_notes}
 use Rattle.sbp_world.proofs.Agents.Management.Holding.{Holding, was_sent}
 use Rattle.sbp_world.proofs.Agents.Management.Still.{hist}
 use Rattle.sbp_world.proofs.Hosts.Carries.{IsNoAct}
 use Rattle.sbp_world.proofs.Sessions.Turns.{wire_generation}
-use Rattle.sbp_world.specs.Lists.Managing.{IsAccepted, IsManaged}
-use Rattle.sbp_world.specs.Lists.Tellings.{IsTaken}
-use Rattle.sbp_world.specs.Lists.Underway.{OperationsLast}
 use Rattle.sbp_world.proofs.Lists.Courses.{Goes, by_delivery, by_end, by_line, by_start}
 use Rattle.sbp_world.proofs.Lists.Judging.{goes_next, grown, turn_fresh}
 use Rattle.sbp_world.proofs.Lists.LiveAway.{Over, Steady, begins_none, line_over, no_act, notes_host, notes_over, over_self, over_then}

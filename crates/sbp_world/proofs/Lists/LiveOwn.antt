@@ -1,21 +1,13 @@
 -- Where the session of an initiator stands as an operation that moves it ends, by a status block or by a conflict_error. It is on its way by such an operation alone, but
 -- where it is stuck and no management operation is under way.
-use Rattle.std.proofs.Common.{arith, ◌≡◌, ◌∙◌, refl, sym, ap, ◌⊎◌, ℕ, ◌==◌, Bool, true, false, cond, List, Option, Some, None}
-use Rattle.std.proofs.lemmas.Bool.Decides.{nat_tests}
-use Rattle.std.proofs.lemmas.Bool.{false≢true}
+use Rattle.sbp_world.proofs.Words.Std.{arith, ◌≡◌, ◌∙◌, refl, sym, ap, ◌⊎◌, ℕ, ◌==◌, Bool, true, false, cond, List, Option, Some, None, nat_tests, false≢true}
+use Rattle.sbp_world.proofs.Words.Wire.{Operation}
+use Rattle.sbp_world.proofs.Words.Initiator.{LoginResponse, login_response, Running, good_event, moves_session, Seat, bad, conflict, goes, is_stuck_seat}
+use Rattle.sbp_world.proofs.Words.Laws.{is_management}
+use Rattle.sbp_world.proofs.Words.World.{session_in}
 use Rattle.sbp_world.proofs.Hosts.Knowing.{Sits}
-use Rattle.sbp_world.specs.Hosts.Core.{session_in}
-use Rattle.orb_layout.specs.declared.login.LoginResponse.{LoginResponse}
-use Rattle.orb_layout.specs.LoginResponses.{login_response}
-use Rattle.sbp_initiator.specs.declared.purpose.Running.{Running}
-use Rattle.sbp_initiator.specs.Effects.{good_event, moves_session}
-use Rattle.sbp_journal.specs.declared.operation.Operation.{Operation}
 use Rattle.sbp_journal.specs.declared.operation.Operation.TheVariants as operations
-use Rattle.sbp_laws.specs.Hosts.{is_management}
-use Rattle.sbp_session.specs.declared.seat.Seat.{Seat}
 use Rattle.sbp_session.specs.declared.seat.Seat.TheVariants as seats
-use Rattle.sbp_session.specs.Moves.{bad, conflict, goes}
-use Rattle.sbp_session.specs.Seats.{is_stuck_seat}
 use Rattle.sbp_world.proofs.Lists.LiveMoves.{IsLike, told_event}
 use Rattle.sbp_world.proofs.Lists.LiveStandings.{apart, comes, inside, leaves, stand_of}
 use Rattle.sbp_world.proofs.Common.{untrue}

@@ -1,21 +1,13 @@
 -- What a turn of an initiator leaves of what is known of its node by where its session stands.
-use Rattle.std.proofs.Common.{◌≡◌, ◌∙◌, refl, sym, ap, subst, ◌⊎◌, inl, inr, ℕ, Bool, true, false, List, Option, Some, None}
+use Rattle.sbp_world.proofs.Words.Std.{◌≡◌, ◌∙◌, refl, sym, ap, subst, ◌⊎◌, inl, inr, ℕ, Bool, true, false, List, Option, Some, None}
+use Rattle.sbp_world.proofs.Words.Wire.{Operation}
+use Rattle.sbp_world.proofs.Words.Target.{Login, Managed}
+use Rattle.sbp_world.proofs.Words.Initiator.{LoginResponse, login_response, Running, InitiatorState, moves_session, response_of, Seat, is_stuck_seat}
+use Rattle.sbp_world.proofs.Words.World.{operation_by, session_in, work_in, HasLogin, HasNone}
 use Rattle.sbp_world.proofs.Hosts.Knowing.{Sits}
-use Rattle.sbp_world.specs.Hosts.Core.{operation_by, session_in, work_in}
-use Rattle.login_table.specs.declared.login.Login.{Login}
-use Rattle.mgmt_agent.specs.declared.operation.Operation.{Operation as Managed}
 use Rattle.mgmt_agent.specs.Machine.{Machine}
-use Rattle.orb_layout.specs.declared.login.LoginResponse.{LoginResponse}
-use Rattle.orb_layout.specs.LoginResponses.{login_response}
-use Rattle.sbp_initiator.specs.declared.purpose.Running.{Running}
-use Rattle.sbp_initiator.specs.declared.state.InitiatorState.{InitiatorState}
-use Rattle.sbp_initiator.specs.Effects.{moves_session, response_of}
-use Rattle.sbp_journal.specs.declared.operation.Operation.{Operation}
 use Rattle.sbp_journal.specs.declared.operation.Operation.TheVariants as operations
-use Rattle.sbp_session.specs.declared.seat.Seat.{Seat}
 use Rattle.sbp_session.specs.declared.seat.Seat.TheVariants as seats
-use Rattle.sbp_session.specs.Seats.{is_stuck_seat}
-use Rattle.sbp_world.specs.Lists.Live.{HasLogin, HasNone}
 use Rattle.sbp_world.proofs.Lists.LiveActs.{Acted, IsReset, Sends, begins, comes_back, goes_out, idle, logs_in, moves}
 use Rattle.sbp_world.proofs.Lists.LiveMoves.{IsLike, Moved, answers, ends, gives_up, rests, undoes}
 use Rattle.sbp_world.proofs.Lists.LiveOwn.{Came, Fit, GaveUp, Undid, came, enters_moves, granted_back, granted_in, in_again, in_hand, is_entry, is_exit, moves_managed, not_up, out_again, quits_moves, refused_in, still_stuck, stuck_still, two_ways, undid, up_like, went_out}

@@ -1,22 +1,13 @@
 -- Where a status of 00 is got for a login, its response names a login that the initiator's node had as a turn began; so it does wherever a login is done.
-use Rattle.std.proofs.Common.{inr, sym, subst, ℕ, List, [], ◌∷◌, ◌++◌, map}
-use Rattle.bus_transactions.specs.Packets.{SerialsCount}
-use Rattle.orb_layout.specs.declared.login.LoginResponse.{LoginResponse}
-use Rattle.orb_layout.specs.LoginResponses.{login_response}
-use Rattle.rbc_disk.specs.Disk.{Disk}
-use Rattle.sbp_journal.specs.Run.{Moment, asked, said}
-use Rattle.sbp_journal.specs.declared.event.Event.{Event}
-use Rattle.sbp_journal.specs.declared.note.Note.{Note}
+use Rattle.sbp_world.proofs.Words.Std.{inr, sym, subst, ℕ, List, [], ◌∷◌, ◌++◌, map}
+use Rattle.sbp_world.proofs.Words.Wire.{SerialsCount, Moment, asked, said, Event, Note, Operation, OpWord}
+use Rattle.sbp_world.proofs.Words.Target.{Disk}
+use Rattle.sbp_world.proofs.Words.Initiator.{LoginResponse, login_response}
+use Rattle.sbp_world.proofs.Words.Laws.{host_at, response_of, EachMoment}
+use Rattle.sbp_world.proofs.Words.World.{AreAsked, GrantedAt, IsGot, HadBy, OursAt, OwnBy, OwnedAt}
 use Rattle.sbp_journal.specs.declared.note.Note.TheVariants as notes
-use Rattle.sbp_journal.specs.declared.operation.Operation.{Operation}
 use Rattle.sbp_journal.specs.declared.operation.Operation.TheVariants as operations
-use Rattle.sbp_journal.specs.declared.operation.OpWord.{OpWord}
 use Rattle.sbp_journal.specs.declared.operation.OpWord.TheVariants as words
-use Rattle.sbp_laws.specs.Hosts.{host_at, response_of}
-use Rattle.sbp_laws.specs.Turns.{EachMoment}
-use Rattle.sbp_world.specs.Lists.Contents.{AreAsked}
-use Rattle.sbp_world.specs.Lists.LoginAnswers.{GrantedAt, IsGot}
-use Rattle.sbp_world.specs.Lists.Owners.{HadBy, OursAt, OwnBy, OwnedAt}
 use Rattle.sbp_world.proofs.Lists.Gots.{Next, next, next_line, same_still}
 use Rattle.sbp_world.proofs.Lists.IdsOwned.{begun_had}
 use Rattle.sbp_world.proofs.Lists.LiveBased.{Buffered, here_tells, line_tells, same_response, told_well}

@@ -1,41 +1,18 @@
 -- An initiator hears a status block for the operation that it has under way: that is the one which waited for it, with the bytes that the target had to write.
-use Rattle.std.proofs.Common.{◌≡◌, ◌∙◌, refl, sym, ap, subst, ℕ, suc, ◌<◌, List, ◌∷◌, ◌++◌, map, length, Option, Some, Ok}
-use Rattle.async_packet.specs.Packet.{Packet, header_in, write_block}
-use Rattle.async_packet.specs.Reading.{reading}
+use Rattle.sbp_world.proofs.Words.Std.{◌≡◌, ◌∙◌, refl, sym, ap, subst, ℕ, suc, ◌<◌, List, ◌∷◌, ◌++◌, map, length, Option, Some, Ok}
+use Rattle.sbp_world.proofs.Words.Wire.{Packet, header_in, write_block, reading, SerialsCount, as_sending, Sent, found_sent, judged_note, empty_outbox, Moment, asked, said, Sending, terms, Judged, Event, Note}
+use Rattle.sbp_world.proofs.Words.Target.{status_block, Disk}
+use Rattle.sbp_world.proofs.Words.Initiator.{start_of, Running, InitiatorState, receive_step, status_in}
+use Rattle.sbp_world.proofs.Words.World.{more_deliveries, Stands, Scene, WorldState, initiator_at, AreAsked, IsTelling, IsTold, outgoing_for}
 use Rattle.bus_memory.specs.declared.window.Window.TheVariants as windows
-use Rattle.bus_memory.specs.Windows.{start as start_of}
-use Rattle.bus_transactions.specs.Packets.{SerialsCount}
-use Rattle.bus_transactions.specs.Wire.{as_sending}
 use Rattle.bus_transactions.proofs.Reaches.{goes_on}
-use Rattle.sbp_world.specs.Hosts.Runs.{more_deliveries}
 use Rattle.sbp_world.proofs.Hosts.Shows.{shown_now}
 use Rattle.sbp_world.proofs.Hosts.Shown.{IsShown}
 use Rattle.mgmt_agent.specs.declared.status.Status.TheVariants as statuses
-use Rattle.mgmt_agent.specs.Machine.{status_block}
-use Rattle.packet_store.specs.declared.sent.Sent.{Sent}
-use Rattle.packet_store.specs.Kept.{found_sent}
-use Rattle.rbc_disk.specs.Disk.{Disk}
-use Rattle.sbp_bus.specs.Packets.{judged_note}
-use Rattle.sbp_initiator.specs.declared.purpose.Running.{Running}
-use Rattle.sbp_initiator.specs.declared.state.InitiatorState.{InitiatorState}
-use Rattle.sbp_initiator.specs.Receiving.{receive_step}
-use Rattle.sbp_initiator.specs.States.{status_in}
-use Rattle.sbp_journal.specs.Outgoings.{empty_outbox}
-use Rattle.sbp_journal.specs.Run.{Moment, asked, said}
-use Rattle.sbp_journal.specs.Transactions.{Sending}
-use Rattle.sbp_journal.specs.Wire.{terms}
-use Rattle.sbp_journal.specs.declared.cause.Judged.{Judged}
 use Rattle.sbp_journal.specs.declared.cause.Judged.TheVariants as judgements
-use Rattle.sbp_journal.specs.declared.event.Event.{Event}
-use Rattle.sbp_journal.specs.declared.note.Note.{Note}
 use Rattle.sbp_journal.specs.declared.note.Note.TheVariants as notes
-use Rattle.sbp_world.specs.Wire.Wires.{Stands}
-use Rattle.sbp_world.specs.Worlds.{Scene, WorldState, initiator_at}
 use Rattle.sbp_world.proofs.Agents.Management.Holding.{Holding, is_of, was_sent}
 use Rattle.sbp_world.proofs.Agents.Management.Still.{hist}
-use Rattle.sbp_world.specs.Lists.Contents.{AreAsked}
-use Rattle.sbp_world.specs.Lists.Managing.{IsTelling}
-use Rattle.sbp_world.specs.Lists.Tellings.{IsTold, outgoing_for}
 use Rattle.sbp_world.proofs.Lists.Courses.{Goes, by_delivery, by_end, by_line, by_start}
 use Rattle.sbp_world.proofs.Lists.LiveBlocks.{SentBlock, TellsBlock, good_status, same_status, sent_block, tells_block}
 use Rattle.sbp_world.proofs.Lists.LiveCalled.{Begins}

@@ -1,5 +1,5 @@
 -- As the target is called its operation, and one that it starts, is of a place of the initiator whose node it is for: in a run in which no initiator injected packets.
-use Rattle.std.proofs.Common.{arith, ◌∙◌, sym, ◌<◌}
+use Rattle.sbp_world.proofs.Words.Std.{arith, ◌∙◌, sym, ◌<◌}
 use Rattle.sbp_world.proofs.Agents.Management.Still.{hist}
 use Rattle.sbp_world.proofs.Lists.KeptTurns.{id_is, operation_is}
 use Rattle.sbp_world.proofs.Lists.LiveJoined.{PlacedTurns}

@@ -1,23 +1,13 @@
 -- The logins of the initiators' nodes in every run, where no initiator injected packets, or few logins were given, and lists were open before as they should be: by what is known of the
 -- turns of the target, of the response buffers and of the logins that are done.
-use Rattle.std.proofs.Common.{◌∙◌, subst, ℕ, ◌<◌, List, length}
-use Rattle.rbc_disk.specs.Disk.{Disk}
+use Rattle.sbp_world.proofs.Words.Std.{◌∙◌, subst, ℕ, ◌<◌, List, length}
+use Rattle.sbp_world.proofs.Words.Wire.{Moment}
+use Rattle.sbp_world.proofs.Words.Target.{Disk}
+use Rattle.sbp_world.proofs.Words.Laws.{EachMoment}
+use Rattle.sbp_world.proofs.Words.World.{more_deliveries, after, beginning, after_all, history_of, WorldState, begun, Under, WhereTameOrFew, LiveLaw, NoneRefused, IsCalmBeside, BufferSo, AreShort}
 use Rattle.sbp_world.proofs.Hosts.Runs.{count_after, count_between}
-use Rattle.sbp_world.specs.Hosts.Runs.{more_deliveries}
-use Rattle.sbp_journal.specs.Run.{Moment}
 use Rattle.sbp_world.proofs.Hosts.Quadlets.{source_law}
 use Rattle.sbp_world.proofs.Sessions.HoldingRuns.{holding_law}
-use Rattle.sbp_world.specs.Runs.{after, beginning}
-use Rattle.sbp_world.specs.Settling.{after_all}
-use Rattle.sbp_world.specs.Histories.{history_of}
-use Rattle.sbp_world.specs.Worlds.{WorldState, begun}
-use Rattle.sbp_laws.specs.Turns.{EachMoment}
-use Rattle.sbp_world.specs.Lists.Closes.{Under, WhereTameOrFew}
-use Rattle.sbp_world.specs.Lists.Live.{LiveLaw}
-use Rattle.sbp_world.specs.Lists.Opened.{NoneRefused}
-use Rattle.sbp_world.specs.Lists.FewLogins.{IsCalmBeside}
-use Rattle.sbp_world.specs.Lists.Responding.{BufferSo}
-use Rattle.sbp_world.specs.Lists.Shorts.{AreShort}
 use Rattle.sbp_world.proofs.Lists.ContentPlaces.{contents_everywhere}
 use Rattle.sbp_world.proofs.Lists.LiveBuffered.{buffer_turns}
 use Rattle.sbp_world.proofs.Lists.ReplyRuns.{replied_everywhere}

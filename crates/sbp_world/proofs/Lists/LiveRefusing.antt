@@ -1,48 +1,21 @@
 -- No response of conflict_error ends the operation of an initiator whose write started an operation of the target: such a response answers that write, and was given to it.
-use Rattle.std.proofs.Common.{arith, ◌≡◌, ◌∙◌, refl, sym, ap, subst, ℕ, suc, ◌<◌, Bool, true, false, cond, List, ◌∷◌, ◌++◌, map, length, Option, Some, None, Result, Ok, Err}
+use Rattle.sbp_world.proofs.Words.Std.{arith, ◌≡◌, ◌∙◌, refl, sym, ap, subst, ℕ, suc, ◌<◌, Bool, true, false, cond, List, ◌∷◌, ◌++◌, map, length, Option, Some, None, Result, Ok, Err, nat_tests}
+use Rattle.sbp_world.proofs.Words.Wire.{PacketFault, rcode_of, LabelParts, Packet, header_in, reading, AreJudged, is_awaited, is_response, may_get, waits_for, as_sending, transaction, LabelState, ReplyKind, Facts, Row, by_again, by_generation, by_grammar, by_label, by_request, by_response, row_of, Finding, Layer, closed_at, closed_by, closing_in, closing_step, layer_facts, judged_by, judging_step, of_response, peer_at, peer_place, responded, PeerPlace, close_place, closed_for, reply_kind, Table, close_in, close_step, handle, place_at, Sent, found_sent, judged_note, empty_outbox, Moment, asked, said, Kind, Sending, Transaction, between, is_same_kind, part_of, response, Terms, arrives, closes, closes_if, free, gets, gets_as, is_news, is_served, opened, terms, waits, Event, Note}
+use Rattle.sbp_world.proofs.Words.Target.{Disk}
+use Rattle.sbp_world.proofs.Words.Initiator.{Purpose, Running, InitiatorState, receive_step}
+use Rattle.sbp_world.proofs.Words.Laws.{Underway, host_at, is_management}
+use Rattle.sbp_world.proofs.Words.World.{after, beginning, Scene, WorldState, initiator_at, more_deliveries, IsAccepted, IsTaken}
 use Rattle.std.specs.Option.{IfSome}
-use Rattle.std.proofs.lemmas.Bool.Decides.{nat_tests}
-use Rattle.async_packet.specs.declared.fault.PacketFault.{PacketFault}
-use Rattle.async_packet.specs.Fields.{rcode_of}
-use Rattle.async_packet.specs.Labels.{LabelParts}
-use Rattle.async_packet.specs.Packet.{Packet, header_in}
-use Rattle.async_packet.specs.Reading.{reading}
-use Rattle.bus_transactions.specs.Judging.{AreJudged, facts_of, is_awaited, is_response, may_get, waits_for}
-use Rattle.bus_transactions.specs.Wire.{as_sending, transaction}
+use Rattle.bus_transactions.specs.Judging.{facts_of}
 use Rattle.bus_transactions.proofs.PacketParts.{part_read, same_refl}
 use Rattle.bus_transactions.proofs.Reaches.{goes_on}
-use Rattle.label_table.specs.declared.place.LabelState.{LabelState}
 use Rattle.label_table.specs.declared.place.LabelState.TheVariants as states
-use Rattle.label_table.specs.declared.reply.ReplyKind.{ReplyKind}
-use Rattle.label_table.specs.Judging.{Facts, Row, by_again, by_generation, by_grammar, by_label, by_request, by_response, row_of}
-use Rattle.label_table.specs.Layer.{Finding, Layer, closed_at, closed_by, closing_in, closing_step, facts_of as layer_facts, judged_by, judging_step, of_response, peer_at, peer_place, responded}
-use Rattle.label_table.specs.Peers.{PeerPlace, close_place, closed_for}
-use Rattle.label_table.specs.Requests.{reply_kind}
-use Rattle.label_table.specs.Table.{Table, close_in, close_step, handle, place_at}
 use Rattle.sbp_initiator.proofs.Histories.Purposes.{kind_in}
-use Rattle.packet_store.specs.declared.sent.Sent.{Sent}
-use Rattle.packet_store.specs.Kept.{found_sent}
-use Rattle.rbc_disk.specs.Disk.{Disk}
-use Rattle.sbp_bus.specs.Packets.{judged_note}
-use Rattle.sbp_initiator.specs.declared.purpose.Purpose.{Purpose}
 use Rattle.sbp_initiator.specs.declared.purpose.Purpose.TheVariants as purposes
-use Rattle.sbp_initiator.specs.declared.purpose.Running.{Running}
-use Rattle.sbp_initiator.specs.declared.state.InitiatorState.{InitiatorState}
-use Rattle.sbp_initiator.specs.Receiving.{receive_step}
-use Rattle.sbp_journal.specs.Outgoings.{empty_outbox}
-use Rattle.sbp_journal.specs.Run.{Moment, asked, said}
-use Rattle.sbp_journal.specs.Transactions.{Kind, Sending, Transaction, between, is_same_kind, part_of, response}
-use Rattle.sbp_journal.specs.Wire.{Terms, arrives, closes, closes_if, free, gets, gets_as, is_news, is_served, opened, terms, waits}
 use Rattle.sbp_journal.specs.declared.cause.Judged.TheVariants as judgements
-use Rattle.sbp_journal.specs.declared.event.Event.{Event}
-use Rattle.sbp_journal.specs.declared.note.Note.{Note}
 use Rattle.sbp_journal.specs.declared.note.Note.TheVariants as notes
-use Rattle.sbp_laws.specs.Hosts.{Underway, host_at, is_management}
-use Rattle.sbp_world.specs.Runs.{after, beginning}
-use Rattle.sbp_world.specs.Worlds.{Scene, WorldState, initiator_at}
 use Rattle.sbp_world.proofs.Agents.Management.Holding.{Holding, is_of, past_terms, was_sent}
 use Rattle.sbp_world.proofs.Agents.Management.Still.{hist}
-use Rattle.sbp_world.specs.Hosts.Runs.{more_deliveries}
 use Rattle.sbp_world.proofs.Hosts.Aimed.{IsAimed}
 use Rattle.sbp_world.proofs.Hosts.Carried.{between_runs, of_runs}
 use Rattle.sbp_world.proofs.Hosts.Hosted.{Cored}
@@ -50,8 +23,6 @@ use Rattle.sbp_world.proofs.Hosts.Lives.{At}
 use Rattle.sbp_world.proofs.Hosts.Pointing.{called_of}
 use Rattle.sbp_world.proofs.Hosts.Runs.{count_after, count_between}
 use Rattle.sbp_world.proofs.Hosts.Shows.{shown_now}
-use Rattle.sbp_world.specs.Lists.Managing.{IsAccepted}
-use Rattle.sbp_world.specs.Lists.Tellings.{IsTaken}
 use Rattle.sbp_world.proofs.Lists.Courses.{EveryPlace, Goes, by_delivery, by_end, by_line, by_start}
 use Rattle.sbp_world.proofs.Lists.Heard.{spells}
 use Rattle.sbp_world.proofs.Lists.LiveHears.{IsUndone}

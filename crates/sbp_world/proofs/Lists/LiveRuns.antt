@@ -1,34 +1,19 @@
 -- The logins of the initiators' nodes over the runs, where the two ends of the management go together at each turn.
-use Rattle.std.proofs.Common.{inr, inl, arith, ◌≡◌, ◌∙◌, refl, sym, ap, subst, ℕ, suc, ◌+◌, ◌<◌, ◌≤◌, Bool, true, List, [], ◌∷◌, ◌++◌, map, length, Option, Some}
+use Rattle.sbp_world.proofs.Words.Std.{inr, inl, arith, ◌≡◌, ◌∙◌, refl, sym, ap, subst, ℕ, suc, ◌+◌, ◌<◌, ◌≤◌, Bool, true, List, [], ◌∷◌, ◌++◌, map, length, Option, Some}
+use Rattle.sbp_world.proofs.Words.Wire.{id_of, topology_at, end_note, Note, Moment, asked, said, terms}
+use Rattle.sbp_world.proofs.Words.Target.{Login, is_live, Disk, Told, NodeState, login_at}
+use Rattle.sbp_world.proofs.Words.Initiator.{InitiatorState}
+use Rattle.sbp_world.proofs.Words.World.{IsRun, more_deliveries, history_of, moments_behind, ready_logins, Run, after, beginning, MayAll, after_all, delivered_next, Scene, WorldState, begun, initiator_at, without_notes, HasCaught, IsCalm, OpenBefore, OpenBetween, IsTame, IsCalmBeside, IsTameOrFew}
 use Rattle.sbp_world.proofs.Hosts.Carried.{between_runs, of_runs}
 use Rattle.sbp_world.proofs.Hosts.Hosted.{Cored, cored_carried, first_cored}
 use Rattle.sbp_world.proofs.Hosts.Runs.{count_after, count_between}
-use Rattle.sbp_world.specs.Hosts.Runs.{IsRun, more_deliveries}
-use Rattle.login_table.specs.declared.login.Login.{Login}
-use Rattle.login_table.specs.Table.{is_live}
-use Rattle.rbc_disk.specs.Disk.{Disk}
-use Rattle.rbc_disk.specs.Runs.{Told}
-use Rattle.sbp_bus.specs.Generations.{id_of, topology_at}
-use Rattle.sbp_bus.specs.Packets.{end_note}
-use Rattle.sbp_initiator.specs.declared.state.InitiatorState.{InitiatorState}
-use Rattle.sbp_journal.specs.declared.note.Note.{Note}
-use Rattle.sbp_journal.specs.Run.{Moment, asked, said}
-use Rattle.sbp_journal.specs.Wire.{terms}
-use Rattle.sbp_target.specs.Nodes.{NodeState, login_at}
-use Rattle.sbp_world.specs.Histories.{history_of, moments_behind}
-use Rattle.sbp_world.specs.Making.{ready_logins}
-use Rattle.sbp_world.specs.Runs.{Run, after, beginning}
-use Rattle.sbp_world.specs.Settling.{MayAll, after_all, delivered_next}
-use Rattle.sbp_world.specs.Worlds.{Scene, WorldState, begun, initiator_at, without_notes}
 use Rattle.sbp_world.proofs.Wire.Sizes.{Sizes, happens_keeps}
 use Rattle.sbp_world.proofs.Agents.Management.Holding.{Holding, known_id}
 use Rattle.sbp_world.proofs.Agents.Management.Lines.{opens}
 use Rattle.sbp_world.proofs.Agents.Management.Still.{hist}
-use Rattle.sbp_world.specs.Sessions.Caught.{HasCaught}
 use Rattle.sbp_world.proofs.Sessions.Caught.{Met}
 use Rattle.sbp_world.proofs.Sessions.Runs.{caught_between_law, caught_law, met_after, met_between}
 use Rattle.sbp_world.proofs.Sessions.Turns.{wire_generation}
-use Rattle.sbp_world.specs.Lists.Needs.{IsCalm, OpenBefore, OpenBetween}
 use Rattle.sbp_world.proofs.Lists.Beside.{AreDone, all_done, beside_before, own_done, tame_or_few_before}
 use Rattle.sbp_world.proofs.Lists.Judging.{goes_next, grown}
 use Rattle.sbp_world.proofs.Lists.Calm.{asked_calm, calm_before}
@@ -36,8 +21,6 @@ use Rattle.sbp_world.proofs.Lists.Courses.{EveryPlace, Goes, Keeps, at_between, 
 use Rattle.sbp_world.proofs.Lists.LiveBegins.{first_grown, first_lives}
 use Rattle.sbp_world.proofs.Lists.LiveKept.{turn_kept}
 use Rattle.sbp_world.proofs.Lists.LiveLines.{end_turn, line_turn, next_turn}
-use Rattle.sbp_world.specs.Lists.OwnLogins.{IsTame}
-use Rattle.sbp_world.specs.Lists.FewLogins.{IsCalmBeside, IsTameOrFew}
 use Rattle.sbp_world.proofs.Lists.LiveSteps.{Alive, Grown, Helps, Knows, Lives, id_in, own_of, zero_of}
 use Rattle.sbp_world.proofs.Lists.LiveTold.{none_told}
 use Rattle.sbp_world.proofs.Lists.LiveTurns.{OwnCall, TargetCall, TurnOf, Turned, acts, by_clearing, by_own, by_sight, by_target, delivers, hears, lapses, quiet_turn, rests, still}

@@ -1,13 +1,8 @@
 -- The law of the two ends together, and what lists and statuses stand on, where the lines name units of 16 bits.
-use Rattle.std.proofs.Common.{ℕ, ◌<◌, List, length}
-use Rattle.rbc_disk.specs.Disk.{Disk}
-use Rattle.sbp_journal.specs.Run.{Moment}
-use Rattle.sbp_world.specs.Worlds.{WorldState}
-use Rattle.sbp_world.specs.Lists.Closes.{AreHere, Under, WhereTameOrFew}
-use Rattle.sbp_world.specs.Lists.FewLogins.{IsCalmBeside, IsTameOrFew}
-use Rattle.sbp_world.specs.Lists.Live.{LiveLaw}
-use Rattle.sbp_world.specs.Lists.OwnLogins.{AreOwnOf}
-use Rattle.sbp_world.specs.Lists.Shorts.{AreShort}
+use Rattle.sbp_world.proofs.Words.Std.{ℕ, ◌<◌, List, length}
+use Rattle.sbp_world.proofs.Words.Wire.{Moment}
+use Rattle.sbp_world.proofs.Words.Target.{Disk}
+use Rattle.sbp_world.proofs.Words.World.{WorldState, AreHere, Under, WhereTameOrFew, IsCalmBeside, IsTameOrFew, LiveLaw, AreOwnOf, AreShort}
 use Rattle.sbp_world.proofs.Lists.BufferClears.{FifosAt, fifos_everywhere}
 use Rattle.sbp_world.proofs.Lists.Courses.{EveryPlace}
 use Rattle.sbp_world.proofs.Lists.LiveGiven.{LawsAt, ShortLaw, shorts_everywhere}

@@ -1,17 +1,14 @@
 -- Where an initiator's session stands with the target, also that of a stuck one: apart from it, on its way in, inside under the ID of its login, or on its way
 -- out. What the live logins of its node are then, and what each change leaves of that where the target does nothing.
-use Rattle.std.proofs.Common.{◌≡◌, subst, ◌⊎◌, inl, inr, ℕ, true, false, List, Option, Some, None}
-use Rattle.login_table.specs.declared.login.Login.{Login}
-use Rattle.mgmt_agent.specs.declared.operation.Operation.{Operation}
+use Rattle.sbp_world.proofs.Words.Std.{◌≡◌, subst, ◌⊎◌, inl, inr, ℕ, true, false, List, Option, Some, None}
+use Rattle.sbp_world.proofs.Words.Target.{Login, Operation, status_block}
+use Rattle.sbp_world.proofs.Words.Initiator.{Origin, Seat, stick}
+use Rattle.sbp_world.proofs.Words.World.{is_written, HasLogin, HasNone, HasOne}
 use Rattle.mgmt_agent.specs.declared.operation.Phase.TheVariants as phases
 use Rattle.mgmt_agent.specs.declared.status.Status.TheVariants as statuses
-use Rattle.mgmt_agent.specs.Machine.{Machine, status_block}
-use Rattle.sbp_session.specs.declared.seat.Origin.{Origin}
+use Rattle.mgmt_agent.specs.Machine.{Machine}
 use Rattle.sbp_session.specs.declared.seat.Origin.TheVariants as origins
-use Rattle.sbp_session.specs.declared.seat.Seat.{Seat}
-use Rattle.sbp_session.specs.Seats.{stick}
-use Rattle.sbp_world.specs.Sessions.Writing.{is_written}
-use Rattle.sbp_world.specs.Lists.Live.{AreNamed, HasLogin, HasNone, HasOne}
+use Rattle.sbp_world.specs.Lists.Live.{AreNamed}
 use Rattle.sbp_world.proofs.Lists.LiveTables.{has_named, none_one}
 
 pub data Stand : Type 0 where

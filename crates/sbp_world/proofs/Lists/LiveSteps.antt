@@ -1,45 +1,15 @@
 -- What is carried over the turns of a run of the logins of an initiator's node, and that each turn keeps it where the two ends of the management go together.
-use Rattle.std.proofs.Common.{◌≡◌, ◌⊎◌, ℕ, suc, ◌≤◌, Bool, true, false, List, [], ◌∷◌, Option, Some, None}
-use Rattle.async_packet.specs.Labels.{LabelParts}
-use Rattle.async_packet.specs.Packet.{Packet}
+use Rattle.sbp_world.proofs.Words.Std.{◌≡◌, ◌⊎◌, ℕ, suc, ◌≤◌, Bool, true, false, List, [], ◌∷◌, Option, Some, None}
+use Rattle.sbp_world.proofs.Words.Wire.{LabelParts, Packet, judging_step, of_response, Sent, found_sent, id_of, topology_at, judged_note, empty_outbox, Note, Moment}
+use Rattle.sbp_world.proofs.Words.Target.{Login, Table, is_live, Managed, Disk, Told, login_at, scene, answer_in, received, whole}
+use Rattle.sbp_world.proofs.Words.Initiator.{LoginResponse, login_response, Running, response_of, receive_step, is_stuck_seat}
+use Rattle.sbp_world.proofs.Words.Laws.{host_at, EachMoment}
+use Rattle.sbp_world.proofs.Words.World.{WorldState, initiator_at, IsAsked, is_written, HasLogin, IsCalmBeside, GoodAt, NoBadAt, OursAt, OwnBy, OwnedAt, BasedAt, HasBase, IsActive, IsTaken, IsTold}
 use Rattle.sbp_world.proofs.Hosts.Hosted.{Cored}
-use Rattle.label_table.specs.Layer.{judging_step, of_response}
-use Rattle.login_table.specs.declared.login.Login.{Login}
-use Rattle.login_table.specs.Table.{Table, is_live}
-use Rattle.mgmt_agent.specs.declared.operation.Operation.{Operation as Managed}
-use Rattle.orb_layout.specs.declared.login.LoginResponse.{LoginResponse}
-use Rattle.orb_layout.specs.LoginResponses.{login_response}
-use Rattle.packet_store.specs.declared.sent.Sent.{Sent}
-use Rattle.packet_store.specs.Kept.{found_sent}
-use Rattle.rbc_disk.specs.Disk.{Disk}
-use Rattle.rbc_disk.specs.Runs.{Told}
-use Rattle.sbp_bus.specs.Generations.{id_of, topology_at}
-use Rattle.sbp_bus.specs.Packets.{judged_note}
-use Rattle.sbp_initiator.specs.declared.purpose.Running.{Running}
-use Rattle.sbp_initiator.specs.Effects.{response_of}
-use Rattle.sbp_initiator.specs.Receiving.{receive_step}
-use Rattle.sbp_journal.specs.Outgoings.{empty_outbox}
-use Rattle.sbp_journal.specs.declared.note.Note.{Note}
 use Rattle.sbp_journal.specs.declared.operation.Operation.TheVariants as operations
-use Rattle.sbp_journal.specs.Run.{Moment}
-use Rattle.sbp_laws.specs.Hosts.{host_at}
-use Rattle.sbp_laws.specs.Turns.{EachMoment}
 use Rattle.sbp_session.specs.declared.seat.Seat.TheVariants as seats
-use Rattle.sbp_session.specs.Seats.{is_stuck_seat}
 use Rattle.sbp_target.specs.declared.purpose.Purpose.TheVariants as purposes
-use Rattle.sbp_target.specs.Nodes.{login_at, scene}
-use Rattle.sbp_target.specs.Receiving.{answer_in, received}
-use Rattle.sbp_target.specs.Replies.{whole}
-use Rattle.sbp_world.specs.Worlds.{WorldState, initiator_at}
-use Rattle.sbp_world.specs.Sessions.Starting.{IsAsked}
-use Rattle.sbp_world.specs.Sessions.Writing.{is_written}
 use Rattle.sbp_world.proofs.Sessions.Caught.{is_in}
-use Rattle.sbp_world.specs.Lists.Live.{HasLogin}
-use Rattle.sbp_world.specs.Lists.FewLogins.{IsCalmBeside}
-use Rattle.sbp_world.specs.Lists.LoginAnswers.{GoodAt, NoBadAt}
-use Rattle.sbp_world.specs.Lists.Owners.{OursAt, OwnBy, OwnedAt}
-use Rattle.sbp_world.specs.Lists.Placings.{BasedAt, HasBase}
-use Rattle.sbp_world.specs.Lists.Tellings.{IsActive, IsTaken, IsTold}
 use Rattle.sbp_world.proofs.Lists.LiveAims.{Aims}
 use Rattle.sbp_world.proofs.Lists.LiveGrants.{Grants}
 use Rattle.sbp_world.proofs.Lists.LiveHears.{IsAnswered, IsUndone}

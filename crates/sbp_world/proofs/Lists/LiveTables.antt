@@ -1,13 +1,8 @@
 -- What is known of the live logins of one node in a table, and what a change of a place leaves of it.
-use Rattle.std.proofs.Common.{arith, ◌≡◌, ◌≢◌, ◌∙◌, refl, sym, ap, subst, ℕ, ◌<◌, ◌≤◌, nat_eq, nat_lt, Bool, true, false, List, length, set, Option, Some, None}
-use Rattle.std.proofs.lemmas.Bool.Decides.{nat_tests}
-use Rattle.std.proofs.lemmas.Grind.{get_or-set_at}
-use Rattle.std.proofs.lemmas.List.{get_or-set_other, set_past}
-use Rattle.std.proofs.lemmas.Bool.{false≢true}
-use Rattle.login_table.specs.declared.login.Login.{Login}
-use Rattle.login_table.specs.Table.{is_live, place_at}
-use Rattle.sbp_world.specs.Sessions.Standing.{AreSame}
-use Rattle.sbp_world.specs.Lists.Live.{AreNamed, HasLogin, HasNone, HasOne}
+use Rattle.sbp_world.proofs.Words.Std.{arith, ◌≡◌, ◌≢◌, ◌∙◌, refl, sym, ap, subst, ℕ, ◌<◌, ◌≤◌, nat_eq, nat_lt, Bool, true, false, List, length, set, Option, Some, None, nat_tests, get_or-set_at, get_or-set_other, set_past, false≢true}
+use Rattle.sbp_world.proofs.Words.Target.{Login, is_live, place_at}
+use Rattle.sbp_world.proofs.Words.World.{AreSame, HasLogin, HasNone, HasOne}
+use Rattle.sbp_world.specs.Lists.Live.{AreNamed}
 
 pub none_login : {A : Type 0} (login : Login) → None ≡ Some login → A
 none_login login e = absurd (differ e)

@@ -1,18 +1,12 @@
 -- What one management operation of an initiator being in hand says of an operation of the target for it: while that has written no status block, the write of the one
 -- under way started it, and no status block waits.
-use Rattle.std.proofs.Common.{arith, ◌≡◌, ◌∙◌, refl, sym, ap, ◌⊎◌, inl, inr, ℕ, ◌<◌, nat_eq, Bool, true, false, List, Option, Some, None}
-use Rattle.std.proofs.lemmas.Bool.Decides.{nat_tests}
-use Rattle.mgmt_agent.specs.declared.operation.Operation.{Operation}
+use Rattle.sbp_world.proofs.Words.Std.{arith, ◌≡◌, ◌∙◌, refl, sym, ap, ◌⊎◌, inl, inr, ℕ, ◌<◌, nat_eq, Bool, true, false, List, Option, Some, None, nat_tests}
+use Rattle.sbp_world.proofs.Words.Wire.{Moment, terms}
+use Rattle.sbp_world.proofs.Words.Target.{Operation, Disk}
+use Rattle.sbp_world.proofs.Words.Laws.{Underway, host_at, is_management, is_stuck}
+use Rattle.sbp_world.proofs.Words.World.{is_written, HasGivenUp, IsBusy, IsHandling, IsManaged, IsRest, IsServed, IsTelling, IsTaken, IsTold}
 use Rattle.mgmt_agent.specs.declared.operation.Phase.{Phase}
 use Rattle.mgmt_agent.specs.declared.operation.Phase.TheVariants as phases
-use Rattle.rbc_disk.specs.Disk.{Disk}
-use Rattle.sbp_journal.specs.Run.{Moment}
-use Rattle.sbp_journal.specs.Wire.{terms}
-use Rattle.sbp_laws.specs.Hosts.{Underway, host_at, is_management, is_stuck}
-use Rattle.sbp_world.specs.Sessions.Writing.{is_written}
-use Rattle.sbp_world.specs.Lists.Live.{HasGivenUp}
-use Rattle.sbp_world.specs.Lists.Managing.{IsBusy, IsHandling, IsManaged, IsRest, IsServed, IsTelling}
-use Rattle.sbp_world.specs.Lists.Tellings.{IsTaken, IsTold}
 use Rattle.sbp_world.proofs.Lists.LiveOwn.{two_ways}
 use Rattle.sbp_world.proofs.Common.{none_is}
 

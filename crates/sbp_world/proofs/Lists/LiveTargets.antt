@@ -1,32 +1,17 @@
 -- What a turn of the target leaves of what is known of a node by where its initiator's session stands: of a delivery, which may decide the ORB of its
 -- operation, and of each call that brings no reply.
-use Rattle.std.proofs.Common.{arith, ◌≡◌, ◌≢◌, ◌∙◌, refl, sym, ap, subst, ◌⊎◌, inl, inr, ℕ, ◌==◌, nat_eq, Bool, true, false, List, Option, Some, None}
-use Rattle.std.proofs.lemmas.Bool.Decides.{nat_tests}
-use Rattle.std.proofs.lemmas.Bool.{false≢true}
-use Rattle.login_table.specs.declared.login.Login.{Login}
-use Rattle.login_table.specs.Sound.{IsTable}
-use Rattle.login_table.specs.Table.{Table}
+use Rattle.sbp_world.proofs.Words.Std.{arith, ◌≡◌, ◌≢◌, ◌∙◌, refl, sym, ap, subst, ◌⊎◌, inl, inr, ℕ, ◌==◌, nat_eq, Bool, true, false, List, Option, Some, None, nat_tests, false≢true}
+use Rattle.sbp_world.proofs.Words.Wire.{LabelParts, Packet, judging_step, of_response}
+use Rattle.sbp_world.proofs.Words.Target.{Login, IsTable, Table, Operation, Status, decide, status_block, function_of, NodeState, answer_in}
+use Rattle.sbp_world.proofs.Words.Initiator.{ManagementOrb, Answer}
+use Rattle.sbp_world.proofs.Words.World.{AreSame, IsAsked, is_written, HasLogin, HasNone, HasOne}
 use Rattle.mgmt_agent.specs.declared.function.Function.TheVariants as functions
-use Rattle.mgmt_agent.specs.declared.operation.Operation.{Operation}
 use Rattle.mgmt_agent.specs.declared.operation.Phase.TheVariants as phases
-use Rattle.mgmt_agent.specs.declared.status.Status.{Status}
 use Rattle.mgmt_agent.specs.declared.status.Status.TheVariants as statuses
-use Rattle.mgmt_agent.specs.Decisions.{decide}
-use Rattle.mgmt_agent.specs.Machine.{Machine, status_block}
-use Rattle.mgmt_agent.specs.Statuses.{function_of}
-use Rattle.async_packet.specs.Labels.{LabelParts}
-use Rattle.async_packet.specs.Packet.{Packet}
-use Rattle.label_table.specs.Layer.{judging_step, of_response}
-use Rattle.orb_layout.specs.declared.management.ManagementOrb.{ManagementOrb}
-use Rattle.orb_layout.specs.Replies.{Answer}
+use Rattle.mgmt_agent.specs.Machine.{Machine}
 use Rattle.sbp_target.specs.declared.purpose.Purpose.TheVariants as purposes
-use Rattle.sbp_target.specs.Nodes.{NodeState}
-use Rattle.sbp_target.specs.Receiving.{answer_in}
-use Rattle.sbp_world.specs.Sessions.Standing.{AreSame}
-use Rattle.sbp_world.specs.Sessions.Starting.{IsAsked}
-use Rattle.sbp_world.specs.Sessions.Writing.{is_written}
 use Rattle.sbp_world.proofs.Sessions.Logins.{decides as others_stand, same}
-use Rattle.sbp_world.specs.Lists.Live.{AreNamed, HasLogin, HasNone, HasOne}
+use Rattle.sbp_world.specs.Lists.Live.{AreNamed}
 use Rattle.sbp_world.proofs.Lists.LiveCalls.{HasLogins, HasOperation, StandsStill, answered, replies, starts, stays, untouched}
 use Rattle.sbp_world.proofs.Lists.LiveDecides.{LeavesOne, decided_good, decided_kept, decided_one, decided_out, keeps_logins}
 use Rattle.sbp_world.proofs.Lists.LiveReplies.{IsDecidedOn, Logged, decides, granted, reads, responds, stands}

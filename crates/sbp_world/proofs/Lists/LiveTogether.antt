@@ -1,38 +1,17 @@
 -- The two ends of the management go together at a turn in which the target is called: by what is known of each moment of the turn, and of the ORBs that the
 -- target reads.
-use Rattle.std.proofs.Common.{arith, ◌≡◌, ◌∙◌, refl, sym, ap, subst, ◌⊎◌, inl, inr, ℕ, suc, ◌^◌, ◌<◌, Bool, true, List, ◌++◌, map, length, Some}
-use Rattle.async_packet.specs.Labels.{LabelParts}
-use Rattle.async_packet.specs.Packet.{Packet}
+use Rattle.sbp_world.proofs.Words.Std.{arith, ◌≡◌, ◌∙◌, refl, sym, ap, subst, ◌⊎◌, inl, inr, ℕ, suc, ◌^◌, ◌<◌, Bool, true, List, ◌++◌, map, length, Some}
+use Rattle.sbp_world.proofs.Words.Wire.{LabelParts, Packet, judging_step, of_response, Sent, Note, Moment, said, terms}
+use Rattle.sbp_world.proofs.Words.Target.{Table, Managed, Disk, answer_in}
+use Rattle.sbp_world.proofs.Words.Initiator.{start_of, management_orb, InitiatorState}
+use Rattle.sbp_world.proofs.Words.Laws.{Underway, host_at, is_management, id_for, place_bytes, place_held, target_at}
+use Rattle.sbp_world.proofs.Words.World.{more_deliveries, Scene, WorldState, initiator_at, IsAsked, IsInAPlace, IsHandling, IsManaged, IsRest, IsCalm, IsActive, IsTaken, IsTold, underway_orb}
 use Rattle.bus_memory.specs.declared.window.Window.TheVariants as windows
-use Rattle.bus_memory.specs.Windows.{start as start_of}
 use Rattle.sbp_world.proofs.Hosts.Hosted.{Cored}
-use Rattle.sbp_world.specs.Hosts.Runs.{more_deliveries}
-use Rattle.label_table.specs.Layer.{judging_step, of_response}
-use Rattle.login_table.specs.Table.{Table}
-use Rattle.mgmt_agent.specs.declared.operation.Operation.{Operation as Managed}
 use Rattle.mgmt_agent.specs.Machine.{Machine}
-use Rattle.orb_layout.specs.ManagementOrbs.{management_orb}
-use Rattle.packet_store.specs.declared.sent.Sent.{Sent}
-use Rattle.rbc_disk.specs.Disk.{Disk}
-use Rattle.sbp_initiator.specs.declared.state.InitiatorState.{InitiatorState}
-use Rattle.sbp_journal.specs.declared.note.Note.{Note}
-use Rattle.sbp_journal.specs.Run.{Moment, said}
-use Rattle.sbp_journal.specs.Wire.{terms}
-use Rattle.sbp_laws.specs.Hosts.{Underway, host_at, is_management}
-use Rattle.sbp_laws.specs.Packets.{id_for}
-use Rattle.sbp_laws.specs.Served.{place_bytes, place_held}
-use Rattle.sbp_laws.specs.Targets.{target_at}
 use Rattle.sbp_target.specs.declared.purpose.Purpose.TheVariants as purposes
-use Rattle.sbp_target.specs.Receiving.{answer_in}
-use Rattle.sbp_world.specs.Worlds.{Scene, WorldState, initiator_at}
 use Rattle.sbp_world.proofs.Agents.Management.Holding.{Holding, known_id}
 use Rattle.sbp_world.proofs.Agents.Management.Still.{hist}
-use Rattle.sbp_world.specs.Sessions.Starting.{IsAsked}
-use Rattle.sbp_world.specs.Lists.Placings.{IsInAPlace}
-use Rattle.sbp_world.specs.Lists.Managing.{IsHandling, IsManaged, IsRest}
-use Rattle.sbp_world.specs.Lists.Needs.{IsCalm}
-use Rattle.sbp_world.specs.Lists.Tellings.{IsActive, IsTaken, IsTold}
-use Rattle.sbp_world.specs.Lists.Underway.{underway_orb}
 use Rattle.sbp_world.proofs.Lists.Courses.{Goes, by_delivery, by_end, by_line, by_start}
 use Rattle.sbp_world.proofs.Lists.KeptBrings.{brings}
 use Rattle.sbp_world.proofs.Lists.LiveCalled.{Begins, Waited, not_begun, rest_on, taken_on, told_before, told_now, waited}

@@ -1,26 +1,11 @@
 -- What a turn tells that is none of the target: no packet of the target is sent, the target gets none, and the initiator sees no other generation.
-use Rattle.std.proofs.Common.{◌≡◌, ◌∙◌, refl, ap, subst, ℕ, zero, suc, ◌+◌, Bool, true, false, List, [], ◌∷◌, ◌++◌, Option, Some, None}
-use Rattle.async_packet.specs.Labels.{LabelParts}
-use Rattle.packet_store.specs.declared.sent.Kept.{Kept}
-use Rattle.packet_store.specs.declared.sent.Sent.{Sent}
-use Rattle.packet_store.specs.Kept.{found_sent}
-use Rattle.sbp_bus.specs.Generations.{node_of, topology_at}
-use Rattle.sbp_bus.specs.Packets.{judged_note}
-use Rattle.sbp_journal.specs.Outgoings.{OutboxState}
-use Rattle.sbp_journal.specs.declared.cause.Judged.{Judged}
+use Rattle.sbp_world.proofs.Words.Std.{◌≡◌, ◌∙◌, refl, ap, subst, ℕ, zero, suc, ◌+◌, Bool, true, false, List, [], ◌∷◌, ◌++◌, Option, Some, None}
+use Rattle.sbp_world.proofs.Words.Wire.{LabelParts, Kept, Sent, found_sent, node_of, topology_at, judged_note, OutboxState, Judged, Note, Outgoing, Side}
+use Rattle.sbp_world.proofs.Words.World.{handed_out, asked_for, posted, sends, sent_all, sent_to, told, told_all, WorldState, with_note, AreOthers, IsOther, AllOf}
 use Rattle.sbp_journal.specs.declared.cause.Judged.TheVariants as judgements
-use Rattle.sbp_journal.specs.declared.note.Note.{Note}
 use Rattle.sbp_journal.specs.declared.note.Note.TheVariants as notes
-use Rattle.sbp_journal.specs.declared.outbox.Outgoing.{Outgoing}
-use Rattle.sbp_journal.specs.declared.side.Side.{Side}
 use Rattle.sbp_journal.specs.declared.side.Side.TheVariants as sides
-use Rattle.sbp_world.specs.Handing.{handed_out}
-use Rattle.sbp_world.specs.Sending.{asked as asked_for, posted, sent as sends, sent_all, sent_to}
-use Rattle.sbp_world.specs.Telling.{told, told_all}
-use Rattle.sbp_world.specs.Worlds.{WorldState, with_note}
-use Rattle.sbp_world.specs.Hosts.Handing.{AreOthers, IsOther}
 use Rattle.sbp_world.proofs.Hosts.Layered.{AreTame, is_tame}
-use Rattle.sbp_world.specs.Lists.Opened.{AllOf}
 
 -- a packet for an initiator
 pub record IsOwnPacket (kept : List Kept) (serial : ℕ) : Type 0 where

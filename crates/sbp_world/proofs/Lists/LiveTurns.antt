@@ -1,55 +1,18 @@
 -- What a turn of a world is for an initiator: one of the target, in the same generation or by the sight of a later one; or one that leaves the target, in which the
 -- initiator may be called, or sees a later generation.
-use Rattle.std.proofs.Common.{arith, ◌≡◌, ◌∙◌, refl, sym, ap, subst, ℕ, suc, ◌<◌, ◌≤◌, nat_eq, nat_lt, Bool, true, false, cond, List, [], ◌∷◌, length, Option, Some, None, Result, Ok, Err}
-use Rattle.std.specs.Prelude.{slice_index_or}
-use Rattle.std.proofs.lemmas.Bool.Decides.{nat_tests}
-use Rattle.std.proofs.lemmas.List.{get_or-set_other}
-use Rattle.std.proofs.lemmas.Grind.{get_or-set_at}
-use Rattle.std.proofs.lemmas.Bool.{false≢true}
-use Rattle.async_packet.specs.Labels.{LabelParts}
-use Rattle.bus_transactions.specs.Wire.{Node}
-use Rattle.label_table.specs.declared.reply.Stale.{Stale}
-use Rattle.label_table.specs.Layer.{Layer, seeing_step}
-use Rattle.login_table.specs.declared.login.Login.{Login}
-use Rattle.login_table.specs.Table.{is_live}
-use Rattle.mgmt_agent.specs.declared.operation.Operation.{Operation}
-use Rattle.orb_layout.specs.declared.ask.Ask.TheVariants.{Nothing}
-use Rattle.packet_store.specs.declared.sent.Sent.{Sent}
-use Rattle.packet_store.specs.Kept.{found_sent}
-use Rattle.rbc_disk.specs.Disk.{Disk}
-use Rattle.rbc_disk.specs.Runs.{Told}
-use Rattle.sbp_bus.specs.declared.generations.Topology.{Topology}
-use Rattle.sbp_bus.specs.declared.requests.Request.{Request}
-use Rattle.sbp_bus.specs.Generations.{GenerationsState, id_of, topology_at}
-use Rattle.sbp_bus.specs.Packets.{judged_note, no_packet}
-use Rattle.sbp_initiator.specs.Acting.{act_step}
-use Rattle.sbp_initiator.specs.declared.state.InitiatorState.{InitiatorState}
-use Rattle.sbp_initiator.specs.Initiators.{new_state}
-use Rattle.sbp_initiator.specs.Receiving.{expire_step, receive_step}
-use Rattle.sbp_journal.specs.declared.event.Action.{Action}
-use Rattle.sbp_journal.specs.declared.note.Note.{Note}
+use Rattle.sbp_world.proofs.Words.Std.{arith, ◌≡◌, ◌∙◌, refl, sym, ap, subst, ℕ, suc, ◌<◌, ◌≤◌, nat_eq, nat_lt, Bool, true, false, cond, List, [], ◌∷◌, length, Option, Some, None, Result, Ok, Err, slice_index_or, nat_tests, get_or-set_other, get_or-set_at, false≢true}
+use Rattle.sbp_world.proofs.Words.Wire.{LabelParts, Node, Stale, Layer, seeing_step, Sent, found_sent, Topology, Request, GenerationsState, id_of, topology_at, judged_note, no_packet, Action, Note, empty_outbox, Moment}
+use Rattle.sbp_world.proofs.Words.Target.{Login, is_live, Operation, Disk, Told, after, alone, sees, sets_key, ticks, NodeState, TargetScene, login_at, scene, expired, received, whole}
+use Rattle.sbp_world.proofs.Words.Initiator.{Nothing, act_step, InitiatorState, new_state, expire_step, receive_step}
+use Rattle.sbp_world.proofs.Words.World.{handed_out, keyed, no_unit, reset_line, see_line, target_sees, target_ticks, tick_line, told_seen, with_seen, at_initiator, delivered_if, expires, first_told, initiator_expires, inject_line, injected, injected_to, is_in_flight, lose_line, lost, may_repeat, refused, target_expired, target_left, timed_out, timeout_line, timeout_of, WorldState, initiator_at, with_initiator, with_note, with_target, Stands, AreOthers, CallsKeep}
 use Rattle.sbp_journal.specs.declared.note.Note.TheVariants as notes
-use Rattle.sbp_journal.specs.Outgoings.{empty_outbox}
-use Rattle.sbp_journal.specs.Run.{Moment}
-use Rattle.sbp_target.specs.Calls.{after, alone, sees, sets_key, ticks}
-use Rattle.sbp_target.specs.Nodes.{NodeState, Scene as TargetScene, login_at, scene}
-use Rattle.sbp_target.specs.Receiving.{expired, received}
-use Rattle.sbp_target.specs.Replies.{whole}
-use Rattle.sbp_world.specs.Handing.{handed_out}
-use Rattle.sbp_world.specs.Lines.{keyed, no_unit}
-use Rattle.sbp_world.specs.Nodes.{reset_line, see_line, target_sees, target_ticks, tick_line, told_seen, with_seen}
 use Rattle.sbp_world.specs.Nodes as nodes
-use Rattle.sbp_world.specs.Packets.{at_initiator, delivered_if, expires, first_told, initiator_expires, inject_line, injected, injected_to, is_in_flight, lose_line, lost, may_repeat, refused, target_expired, target_left, timed_out, timeout_line, timeout_of}
 use Rattle.sbp_world.specs.Packets as packets
-use Rattle.sbp_world.specs.Worlds.{WorldState, initiator_at, with_initiator, with_note, with_target}
-use Rattle.sbp_world.specs.Wire.Wires.{Stands}
 use Rattle.sbp_world.proofs.Wire.Alike.{IsAlike}
 use Rattle.sbp_world.proofs.Wire.Nodes.{handed_alike}
-use Rattle.sbp_world.specs.Hosts.Handing.{AreOthers}
 use Rattle.sbp_world.proofs.Hosts.Hands.{second_tells, sight_tells}
 use Rattle.sbp_world.proofs.Hosts.TargetTells as target_tell
 use Rattle.sbp_target.proofs.Histories.Calling.{Good}
-use Rattle.sbp_world.specs.Agents.Management.Calls.{CallsKeep}
 use Rattle.sbp_world.proofs.Agents.Management.Calls.{management_law}
 use Rattle.sbp_world.proofs.Agents.Management.Holding.{Holding, good_of}
 use Rattle.sbp_world.proofs.Sessions.Standing.{stands as logins_stand}

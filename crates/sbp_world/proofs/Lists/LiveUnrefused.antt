@@ -1,29 +1,16 @@
 -- Where a status block is got for a logout, it has status 00, if each does that waits for one; so no logout is refused.
-use Rattle.std.proofs.Common.{◌≡◌, ◌∙◌, refl, sym, ap, subst, ℕ, ◌==◌, Bool, true, false, List, [], ◌∷◌, ◌++◌, map, Option, Some, None}
+use Rattle.sbp_world.proofs.Words.Std.{◌≡◌, ◌∙◌, refl, sym, ap, subst, ℕ, ◌==◌, Bool, true, false, List, [], ◌∷◌, ◌++◌, map, Option, Some, None}
+use Rattle.sbp_world.proofs.Words.Wire.{SerialsCount, Moment, asked, said, Event, Note, Operation, OpWord}
+use Rattle.sbp_world.proofs.Words.Target.{status_block, Disk}
+use Rattle.sbp_world.proofs.Words.Initiator.{start_of, Running, InitiatorState}
+use Rattle.sbp_world.proofs.Words.Laws.{Underway, host_at, EachMoment}
+use Rattle.sbp_world.proofs.Words.World.{Core, Work, work_in, work_of, AreUnrefused, IsUnrefused, is_refusal, AreAsked, GrantedAt, IsGot, NoBadAt, IsTold}
 use Rattle.bus_memory.specs.declared.window.Window.TheVariants as windows
-use Rattle.bus_memory.specs.Windows.{start as start_of}
-use Rattle.bus_transactions.specs.Packets.{SerialsCount}
 use Rattle.sbp_world.proofs.Hosts.Hosted.{Cored}
-use Rattle.sbp_world.specs.Hosts.Core.{Core, Work, work_in, work_of}
 use Rattle.mgmt_agent.specs.declared.status.Status.TheVariants as statuses
-use Rattle.mgmt_agent.specs.Machine.{status_block}
-use Rattle.sbp_world.specs.Pointers.Bases.{AreUnrefused, IsUnrefused, is_refusal}
-use Rattle.rbc_disk.specs.Disk.{Disk}
-use Rattle.sbp_initiator.specs.declared.purpose.Running.{Running}
-use Rattle.sbp_initiator.specs.declared.state.InitiatorState.{InitiatorState}
-use Rattle.sbp_journal.specs.Run.{Moment, asked, said}
-use Rattle.sbp_journal.specs.declared.event.Event.{Event}
-use Rattle.sbp_journal.specs.declared.note.Note.{Note}
 use Rattle.sbp_journal.specs.declared.note.Note.TheVariants as notes
-use Rattle.sbp_journal.specs.declared.operation.Operation.{Operation}
 use Rattle.sbp_journal.specs.declared.operation.Operation.TheVariants as operations
-use Rattle.sbp_journal.specs.declared.operation.OpWord.{OpWord}
 use Rattle.sbp_journal.specs.declared.operation.OpWord.TheVariants as words
-use Rattle.sbp_laws.specs.Hosts.{Underway, host_at}
-use Rattle.sbp_laws.specs.Turns.{EachMoment}
-use Rattle.sbp_world.specs.Lists.Contents.{AreAsked}
-use Rattle.sbp_world.specs.Lists.LoginAnswers.{GrantedAt, IsGot, NoBadAt}
-use Rattle.sbp_world.specs.Lists.Tellings.{IsTold}
 use Rattle.sbp_world.proofs.Lists.Gots.{Next, next, next_line, same_still}
 use Rattle.sbp_world.proofs.Lists.LiveBased.{IsAnswerTold, here_tells, line_tells}
 use Rattle.sbp_world.proofs.Lists.LiveBlocks.{same_status}

@@ -1,30 +1,15 @@
 -- In a call an initiator tells at most once that a login is done or a logout refused, and then nothing else: as it gets a status block for its management ORB.
-use Rattle.std.proofs.Common.{arith, ◌≡◌, ◌∙◌, refl, sym, ap, subst, ◌⊎◌, inl, inr, ℕ, ◌==◌, ◌&&◌, not, Bool, true, false, cond, List, [], ◌∷◌, Option, Some, None}
-use Rattle.std.proofs.lemmas.Bool.Decides.{nat_tests}
-use Rattle.async_packet.specs.Packet.{Packet, header_in, write_block}
+use Rattle.sbp_world.proofs.Words.Std.{arith, ◌≡◌, ◌∙◌, refl, sym, ap, subst, ◌⊎◌, inl, inr, ℕ, ◌==◌, ◌&&◌, not, Bool, true, false, cond, List, [], ◌∷◌, Option, Some, None, nat_tests}
+use Rattle.sbp_world.proofs.Words.Wire.{Packet, header_in, write_block, Layer, answering_step, judging_step, Judged, Operation, OpWord, Side, OutboxState, empty_outbox}
+use Rattle.sbp_world.proofs.Words.Target.{is_block}
+use Rattle.sbp_world.proofs.Words.Initiator.{Fifo, Purpose, Running, InitiatorState, Turn, drop_where, end_step, good_end, managed_step, moved, then_step, told, ends_list, bad, addressed, block_at, block_by, block_step, called, fifo_of, got_step, is_foreign, managed_for, present_for, receive_step, received, request_step, responded_as, status_step, status_in}
+use Rattle.sbp_world.proofs.Words.World.{is_open}
 use Rattle.sbp_world.proofs.Hosts.KnowHears.{IfFits}
-use Rattle.initiator_base.specs.declared.fifos.Fifo.{Fifo}
 use Rattle.initiator_base.specs.declared.fifos.Fifo.TheVariants as fifos
-use Rattle.label_table.specs.Layer.{Layer, answering_step, judging_step}
-use Rattle.media_bay.specs.Unsolicited.{is_block}
-use Rattle.sbp_initiator.specs.declared.purpose.Purpose.{Purpose}
-use Rattle.sbp_initiator.specs.declared.purpose.Running.{Running}
-use Rattle.sbp_initiator.specs.declared.state.InitiatorState.{InitiatorState}
-use Rattle.sbp_initiator.specs.Effects.{Turn, drop_where, end_step, good_end, managed_step, moved, then_step, told}
-use Rattle.sbp_initiator.specs.Refusals.{ends_list}
-use Rattle.sbp_session.specs.Moves.{bad}
-use Rattle.sbp_initiator.specs.Receiving.{addressed, block_at, block_by, block_step, called, fifo_of, got_step, is_foreign, managed_for, present_for, receive_step, received, request_step, responded_as, status_step}
-use Rattle.sbp_initiator.specs.States.{status_in}
-use Rattle.sbp_journal.specs.declared.cause.Judged.{Judged}
 use Rattle.sbp_journal.specs.declared.note.Note.TheVariants as notes
-use Rattle.sbp_journal.specs.declared.operation.Operation.{Operation}
 use Rattle.sbp_journal.specs.declared.operation.Operation.TheVariants as operations
-use Rattle.sbp_journal.specs.declared.operation.OpWord.{OpWord}
 use Rattle.sbp_journal.specs.declared.operation.OpWord.TheVariants as words
-use Rattle.sbp_journal.specs.declared.side.Side.{Side}
 use Rattle.sbp_journal.specs.declared.side.Side.TheVariants as sides
-use Rattle.sbp_journal.specs.Outgoings.{OutboxState, empty_outbox}
-use Rattle.sbp_world.specs.Sessions.Entering.{is_open}
 use Rattle.sbp_world.proofs.Lists.LiveDone.{AllDone, IfDone, IsLoggedIn, IsRefused, NoStatus, Nobody, done_told}
 use Rattle.sbp_world.proofs.Lists.LiveHears.{IsAnswered}
 use Rattle.sbp_world.proofs.Common.{untrue}

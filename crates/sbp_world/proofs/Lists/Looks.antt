@@ -1,23 +1,11 @@
 -- Two worlds that look alike: who has the places, the initiators and the notes of the line. What is told of an agent leaves them so.
-use Rattle.std.proofs.Common.{◌≡◌, ◌∙◌, sym, ap, subst, ℕ, nat_lt, Bool, false, cond, List, ◌∷◌, length, map, ◌++◌, Option, None}
-use Rattle.std.specs.Prelude.{slice_index_or}
-use Rattle.command_agent.specs.Machine.{Machine}
-use Rattle.orb_layout.specs.declared.ask.FailCause.{FailCause}
-use Rattle.orb_layout.specs.declared.status.StatusKind.{StatusKind}
-use Rattle.orb_list.specs.Lists.{last_at}
-use Rattle.orb_list.specs.Tickets.{TicketParts}
-use Rattle.rbc_disk.specs.declared.command.Outcome.{Outcome}
-use Rattle.sbp_bus.specs.declared.places.Holder.{Holder}
-use Rattle.sbp_bus.specs.Places.{holder_at, opened_step}
-use Rattle.sbp_bus.specs.Telling.{dead_note, ended_note, list_in, ran_note}
-use Rattle.sbp_initiator.specs.declared.state.InitiatorState.{InitiatorState}
-use Rattle.sbp_initiator.specs.Initiators.{new_state}
-use Rattle.sbp_journal.specs.Run.{Moment, said}
-use Rattle.sbp_journal.specs.declared.note.Note.{Note}
+use Rattle.sbp_world.proofs.Words.Std.{◌≡◌, ◌∙◌, sym, ap, subst, ℕ, nat_lt, Bool, false, cond, List, ◌∷◌, length, map, ◌++◌, Option, None, slice_index_or}
+use Rattle.sbp_world.proofs.Words.Wire.{Holder, holder_at, opened_step, dead_note, ended_note, list_in, ran_note, Moment, said, Note}
+use Rattle.sbp_world.proofs.Words.Target.{Machine, Outcome}
+use Rattle.sbp_world.proofs.Words.Initiator.{FailCause, StatusKind, last_at, TicketParts, InitiatorState, new_state}
+use Rattle.sbp_world.proofs.Words.World.{holder, ticket_at, told, WorldState}
 use Rattle.sbp_journal.specs.declared.note.Note.TheVariants as notes
 use Rattle.sbp_journal.specs.declared.side.Side.TheVariants as sides
-use Rattle.sbp_world.specs.Telling.{holder, ticket_at, told}
-use Rattle.sbp_world.specs.Worlds.{WorldState}
 use Rattle.sbp_world.proofs.Lists.Kept.{Kept, keeps}
 use Rattle.sbp_world.proofs.Lists.Told.{AgentOn}
 use Rattle.sbp_world.proofs.Lists.Passing.{PassLaw}

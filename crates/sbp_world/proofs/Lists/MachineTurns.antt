@@ -1,69 +1,27 @@
 -- What holds of each machine of an agent, and stays by each step of it, stays in each turn of a world: the agents step in calls of the target alone.
+use Rattle.sbp_world.proofs.Words.Std.{arith, ◌≡◌, ◌∙◌, refl, sym, ap, subst, ◌<◌, ◌≤◌, ℕ, zero, suc, nat_eq, nat_lt, Bool, true, false, cond, List, [], ◌∷◌, length, Option, Some, None, not, ◌||◌, Result, Ok, Err, ◌+◌, slice_index_or, slice_set, nat_tests, false≢true}
+use Rattle.sbp_world.proofs.Words.Wire.{Sent, found_sent, is_flying, Request, end_note, judged_note, no_packet, find, Event, OutboxState, empty_outbox, Moment, asked, Stale, Layer, expiring_step, judging_step, deliver_step, id_of, Action, LabelParts, Packet, header_in, of_response}
+use Rattle.sbp_world.proofs.Words.Target.{Told, with_key, expired, expired_in, received, alone, sees, ticks, Purpose, TargetScene, scene, NodeState, desk_at, Held, Machine, Login, served_login, plain_in, Which, which_in, reply_step, answer_in}
+use Rattle.sbp_world.proofs.Words.Initiator.{new_state, receive_step, OwnTurn, act_step}
+use Rattle.sbp_world.proofs.Words.World.{Arrival, MayAt, MayReceive, MayTold, arrived, at_target, delivered, delivered_by, initiator_received, initiators_received, marked, received_by, received_step, target_received, with_initiators, whole_of, MayTell, handed_out, MayHappen, acted, happens, keyed, no_unit, acted_by, weight_in, reset_line, see_line, target_sees, target_ticks, tick_line, told_seen, with_seen, MayIf, delivered_if, expires, initiator_expires, inject_line, is_in_flight, lose_line, may_repeat, refused, target_expired, timed_out, timeout_line, timeout_of, target_left, MayNext, delivered_at, delivered_next, lowest, after_all, IsLine, Scene, WorldState, begun, initiator_at, with_note, with_target, without_notes, with_initiator, machine_at}
 use Rattle.sbp_journal.specs.declared.event.Event.TheVariants as events
 use Rattle.sbp_journal.specs.declared.note.Note.TheVariants as notes
 use Rattle.sbp_world.specs.Packets as packets
 use Rattle.sbp_world.specs.Settling as settling
 use Rattle.sbp_world.specs.Nodes as nodes
-use Rattle.std.proofs.Common.{arith, ◌≡◌, ◌∙◌, refl, sym, ap, subst, ◌<◌, ◌≤◌, ℕ, zero, suc, nat_eq, nat_lt, Bool, true, false, cond, List, [], ◌∷◌, length, Option, Some, None, not, ◌||◌, Result, Ok, Err, ◌+◌}
-use Rattle.std.specs.Prelude.{slice_index_or, slice_set}
-use Rattle.packet_store.specs.declared.sent.Sent.{Sent}
-use Rattle.packet_store.specs.Kept.{found_sent, is_flying}
-use Rattle.rbc_disk.specs.Runs.{Told}
-use Rattle.sbp_bus.specs.declared.requests.Request.{Request}
-use Rattle.sbp_bus.specs.Packets.{end_note, judged_note, no_packet}
-use Rattle.sbp_bus.specs.Requests.{find}
-use Rattle.sbp_initiator.specs.Initiators.{new_state}
-use Rattle.sbp_initiator.specs.Receiving.{receive_step}
-use Rattle.sbp_journal.specs.declared.event.Event.{Event}
-use Rattle.sbp_journal.specs.Outgoings.{OutboxState, empty_outbox}
-use Rattle.sbp_journal.specs.Run.{Moment, asked}
-use Rattle.sbp_target.specs.Receiving.{with_key, expired, expired_in, received}
-use Rattle.sbp_world.specs.declared.parts.delivering.Arrival.{Arrival}
-use Rattle.sbp_world.specs.Delivering.{MayAt, MayReceive, MayTold, arrived, at_target, delivered, delivered_by, initiator_received, initiators_received, marked, received_by, received_step, target_received, with_initiators, whole_of, MayTell}
-use Rattle.sbp_world.specs.Handing.{handed_out}
-use Rattle.sbp_world.specs.Lines.{MayHappen, acted, happens, keyed, no_unit, acted_by, weight_in}
-use Rattle.sbp_world.specs.Nodes.{reset_line, see_line, target_sees, target_ticks, tick_line, told_seen, with_seen}
-use Rattle.sbp_world.specs.Packets.{MayIf, delivered_if, expires, initiator_expires, inject_line, is_in_flight, lose_line, may_repeat, refused, target_expired, timed_out, timeout_line, timeout_of, target_left}
-use Rattle.sbp_world.specs.Settling.{MayNext, delivered_at, delivered_next, lowest, after_all}
-use Rattle.sbp_world.specs.Wire.Lines.{IsLine}
-use Rattle.sbp_world.specs.Worlds.{Scene, WorldState, begun, initiator_at, with_note, with_target, without_notes, with_initiator}
 use Rattle.sbp_world.proofs.Wire.Comes.{own_inside, own_outside, received_is, to_own, to_zero}
 use Rattle.sbp_world.proofs.Agents.Management.Still.{hist}
-use Rattle.sbp_world.specs.Lists.Needs.{machine_at}
 use Rattle.sbp_world.proofs.Lists.Adds.{Stays}
 use Rattle.sbp_world.proofs.Lists.Lines.{hears, injects, loses, own_lapses, own_sight, refuses, resets}
 use Rattle.sbp_world.proofs.Lists.Stays.{stays_end, ready_now}
 use Rattle.sbp_world.proofs.Lists.Turned.{IsOne}
 use Rattle.sbp_world.proofs.Lists.Walks.{Turn, by_delivery, by_end, by_line, by_start}
-use Rattle.std.proofs.lemmas.Bool.Decides.{nat_tests}
-use Rattle.std.proofs.lemmas.Bool.{false≢true}
-use Rattle.label_table.specs.declared.reply.Stale.{Stale}
-use Rattle.label_table.specs.Layer.{Layer, expiring_step, judging_step}
-use Rattle.packet_store.specs.Stored.{deliver_step}
-use Rattle.sbp_bus.specs.Generations.{id_of}
-use Rattle.sbp_target.specs.Calls.{alone, sees, ticks}
-use Rattle.sbp_target.specs.declared.purpose.Purpose.{Purpose}
-use Rattle.sbp_target.specs.Nodes.{Scene as TargetScene, scene, NodeState, desk_at}
 use Rattle.sbp_world.proofs.Lists.BusyDeliveries.{delivery_called, lapse_called, sight_called, tick_called, Called, acts as acting, points, rests}
 use Rattle.sbp_world.proofs.Lists.OpenTurns.{AreSeated}
 use Rattle.sbp_world.proofs.Lists.Turns.{Ready}
-use Rattle.sbp_initiator.specs.Effects.{Turn as OwnTurn}
-use Rattle.sbp_initiator.specs.Acting.{act_step}
 use Rattle.sbp_world.proofs.Wire.Nodes.{handed_alike}
-use Rattle.rbc_disk.specs.Held.{Held}
-use Rattle.sbp_journal.specs.declared.event.Action.{Action}
 use Rattle.sbp_world.proofs.Lists.Full.{IsClosed}
-use Rattle.command_agent.specs.Machine.{Machine}
-use Rattle.async_packet.specs.Labels.{LabelParts}
-use Rattle.async_packet.specs.Packet.{Packet, header_in}
-use Rattle.label_table.specs.Layer.{of_response}
 use Rattle.sbp_target.specs.declared.purpose.Purpose.TheVariants as purposes
-use Rattle.login_table.specs.declared.login.Login.{Login}
-use Rattle.sbp_target.specs.Replies.{served_login, plain_in}
-use Rattle.command_agent.specs.declared.step.Which.{Which}
-use Rattle.sbp_target.specs.Desks.{which_in}
-use Rattle.command_agent.specs.Steps.{reply_step}
-use Rattle.sbp_target.specs.Receiving.{answer_in}
 
 -- ---- the packet that is delivered in a turn, and what is told by it
 abbrev pub line_heard : Event → List (Option Told) → ℕ → Option Told → Type 0

@@ -1,30 +1,19 @@
 -- The reply that waits for an agent to be taken on is to the request that is its main transaction: its answer was got, or it timed out.
-use Rattle.std.proofs.Common.{arith, ◌≡◌, ◌∙◌, refl, sym, ap, subst, inl, inr, ◌⊎◌, ◌==◌, not, ℕ, zero, suc, ◌+◌, Bool, true, false, cond, List, [], ◌∷◌, Option, Some, None}
-use Rattle.std.specs.Prelude.{is_none, position, slice_set, unwrap_or}
-use Rattle.command_agent.specs.declared.step.Which.TheVariants.{Ahead, Main}
-use Rattle.login_table.specs.Table.{Table}
-use Rattle.mgmt_agent.specs.declared.decision.Effect.{Effect}
+use Rattle.sbp_world.proofs.Words.Std.{arith, ◌≡◌, ◌∙◌, refl, sym, ap, subst, inl, inr, ◌⊎◌, ◌==◌, not, ℕ, zero, suc, ◌+◌, Bool, true, false, cond, List, [], ◌∷◌, Option, Some, None, is_none, position, slice_set, unwrap_or}
+use Rattle.sbp_world.proofs.Words.Wire.{Moment, asked, said, Part, part_of, request, response, Terms, Event, Note}
+use Rattle.sbp_world.proofs.Words.Target.{Ahead, Main, Table, Effect, ManagerStep, Disk}
+use Rattle.sbp_world.proofs.Words.Initiator.{Nothing, Answer, Expired}
+use Rattle.sbp_world.proofs.Words.Laws.{access_at, access_in_bytes, answer_in, answered_at, id_for, packet_at, receiver_in, sender_in, Agent, Decided, Purpose, Reply, Target, agent_at, effect_on, enters_in, for_agent, for_manager, for_nobody, got_by, is_own_run, is_serial, is_write_access, key_by, known_at, managed_by, manager_step, new_agent, over, purpose_among, purpose_of, replied, replied_to, reset_seen, sent_as, sent_for, taken_on, target_at, wants, wants_it, event_of}
+use Rattle.sbp_world.proofs.Words.World.{agent_in, IsClosing}
 use Rattle.mgmt_agent.specs.declared.decision.Effect.TheVariants as effects
-use Rattle.mgmt_agent.specs.declared.decision.ManagerStep.{ManagerStep}
 use Rattle.mgmt_agent.specs.Machine as manager
-use Rattle.orb_layout.specs.declared.ask.Ask.TheVariants.{Nothing}
 use Rattle.orb_layout.specs.declared.ask.FailCause.TheVariants as causes
-use Rattle.orb_layout.specs.Replies.{Answer, Expired}
-use Rattle.rbc_disk.specs.Disk.{Disk}
-use Rattle.sbp_journal.specs.Run.{Moment, asked, said}
-use Rattle.sbp_journal.specs.Transactions.{Part, no_packet, part_of, request, response}
-use Rattle.sbp_journal.specs.Wire.{Terms}
-use Rattle.sbp_journal.specs.declared.event.Event.{Event}
+use Rattle.sbp_journal.specs.Transactions.{no_packet}
 use Rattle.sbp_journal.specs.declared.event.Event.TheVariants as events
-use Rattle.sbp_journal.specs.declared.note.Note.{Note}
 use Rattle.sbp_journal.specs.declared.note.Note.TheVariants as notes
 use Rattle.sbp_journal.specs.declared.operation.FunctionWord.TheVariants as functions
-use Rattle.sbp_laws.specs.Packets.{access_at, access_in_bytes, answer_in, answered_at, id_for, packet_at, receiver_in, sender_in}
-use Rattle.sbp_laws.specs.Targets.{Agent, Decided, Purpose, Reply, Target, agent_at, effect_on, enters_in, for_agent, for_manager, for_nobody, got_by, is_own_run, is_serial, is_write_access, key_by, known_at, managed_by, manager_step, new_agent, over, purpose_among, purpose_of, replied, replied_to, reset_seen, sent_as, sent_for, taken_on, target_at, wants, wants_it}
-use Rattle.sbp_laws.specs.Turns.{event_of}
 use Rattle.sbp_laws.proofs.Going.{going_rests, run_rests}
-use Rattle.sbp_world.specs.Agents.Crews.{agent_in}
-use Rattle.sbp_world.specs.Lists.LetsGo.{IsAnswered, IsClosing, WasClosed}
+use Rattle.sbp_world.specs.Lists.LetsGo.{IsAnswered, WasClosed}
 use Rattle.sbp_world.proofs.Lists.PointersGot.{requests_got}
 use Rattle.sbp_world.proofs.Agents.Asides.{over_none}
 use Rattle.sbp_world.proofs.Agents.Handed.{is_its_serial as serial_there}

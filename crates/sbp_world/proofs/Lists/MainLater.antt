@@ -1,14 +1,11 @@
 -- In every history what was the main transaction of the agent of a place is that still, or the agent let it go by a reply or in RESET; and what a request of the target is for as it is sent.
-use Rattle.std.proofs.Common.{arith, ◌≡◌, ◌∙◌, refl, sym, ap, inl, inr, ◌⊎◌, ◌==◌, ℕ, zero, suc, ◌+◌, Bool, true, false, cond, List, [], ◌∷◌, ◌++◌, Option, Some, None}
-use Rattle.command_agent.specs.declared.step.Which.{Which}
-use Rattle.command_agent.specs.declared.step.Which.TheVariants.{Ahead, Main}
-use Rattle.rbc_disk.specs.Disk.{Disk}
-use Rattle.sbp_journal.specs.Run.{Moment}
-use Rattle.sbp_laws.specs.Targets.{Agent, Target, agent_at, for_agent, for_manager, for_nobody, is_serial, purpose_among, purpose_of, target_at}
-use Rattle.sbp_world.specs.Agents.Crews.{agent_in}
-use Rattle.sbp_world.specs.Lists.LetsGo.{IsAnswered, IsCut, MainStaysLaw, WasLetGo}
+use Rattle.sbp_world.proofs.Words.Std.{arith, ◌≡◌, ◌∙◌, refl, sym, ap, inl, inr, ◌⊎◌, ◌==◌, ℕ, zero, suc, ◌+◌, Bool, true, false, cond, List, [], ◌∷◌, ◌++◌, Option, Some, None, nat_tests}
+use Rattle.sbp_world.proofs.Words.Wire.{Moment}
+use Rattle.sbp_world.proofs.Words.Target.{Which, Ahead, Main, Disk}
+use Rattle.sbp_world.proofs.Words.Laws.{Agent, Target, agent_at, for_agent, for_manager, for_nobody, is_serial, purpose_among, purpose_of, target_at}
+use Rattle.sbp_world.proofs.Words.World.{agent_in, IsCut, MainStaysLaw, WasLetGo}
+use Rattle.sbp_world.specs.Lists.LetsGo.{IsAnswered}
 use Rattle.sbp_world.proofs.Lists.MainStays.{stays_or}
-use Rattle.std.proofs.lemmas.Bool.Decides.{nat_tests}
 use Rattle.sbp_world.proofs.Common.{untrue}
 
 module _ (start : List Disk) (place serial : ℕ) where

@@ -1,37 +1,14 @@
 -- At a place of a run, where lists are open as they should be: the main transaction of an agent that goes into the page table or the buffer of a slot of an initiator that injected no packets is for
 -- the first ORB of its list that has not ended. The agent reads the page table of this ORB or its data, or it writes its answer; and the ORB has the slot, or its initiator is ahead of the target.
-use Rattle.std.proofs.Common.{arith, ◌≡◌, ◌∙◌, refl, sym, ap, subst, ◌<◌, ◌≤◌, ◌+◌, ◌-◌, ℕ, suc, nat_lt, Bool, true, false, List, length, Some}
-use Rattle.std.proofs.lemmas.Bool.Decides.{nat_tests}
-use Rattle.std.proofs.lemmas.Nat.{pow_pos}
-use Rattle.agent_laws.specs.Along.Along.{Knows, Progress}
-use Rattle.agent_laws.specs.Along.Requests.{main_ask}
-use Rattle.bus_memory.specs.Windows.{window_at}
-use Rattle.command_agent.specs.declared.phase.Phase.{Phase}
+use Rattle.sbp_world.proofs.Words.Std.{arith, ◌≡◌, ◌∙◌, refl, sym, ap, subst, ◌<◌, ◌≤◌, ◌+◌, ◌-◌, ℕ, suc, nat_lt, Bool, true, false, List, length, Some, nat_tests, pow_pos}
+use Rattle.sbp_world.proofs.Words.Wire.{or_nobody, Access, Cmd, Moment, Terms, terms}
+use Rattle.sbp_world.proofs.Words.Target.{Knows, Progress, main_ask, Phase, Main, Machine, chunk_of, limit_of, Disk}
+use Rattle.sbp_world.proofs.Words.Initiator.{window_at}
+use Rattle.sbp_world.proofs.Words.Laws.{fifo_in, command_at, linked, orb, prepared_in, present_list, slot_at, Target, agent_at, term_login, over, target_at, ends}
+use Rattle.sbp_world.proofs.Words.World.{WorldState, initiator_at, IsAccessFor, GoesAlong, AreUntaken, AreForOrbs, HadSlot, IsForOrb, IsInSlot, ahead, in_generation, IsTameOrFew, IsCalm, IsOpenAt, OpenLists, initiator_in, machine_at, IsOpened, data_slot, HasSlot}
 use Rattle.command_agent.specs.declared.phase.Phase.TheVariants as phases
-use Rattle.command_agent.specs.declared.step.Which.TheVariants.{Main}
-use Rattle.command_agent.specs.Machine.{Machine, chunk_of, limit_of}
-use Rattle.rbc_disk.specs.Disk.{Disk}
-use Rattle.sbp_bus.specs.Places.{or_nobody}
-use Rattle.sbp_journal.specs.Addresses.{Access}
-use Rattle.sbp_journal.specs.declared.event.Cmd.{Cmd}
-use Rattle.sbp_journal.specs.Run.{Moment}
-use Rattle.sbp_journal.specs.Wire.{Terms, terms}
-use Rattle.sbp_laws.specs.Agents.{fifo_in}
-use Rattle.sbp_laws.specs.Lists.{command_at, linked, orb, prepared_in, present_list, slot_at}
-use Rattle.sbp_laws.specs.Targets.{Target, agent_at, login_at as term_login, over, target_at}
-use Rattle.sbp_laws.specs.Terms.{ends}
-use Rattle.sbp_world.specs.Worlds.{WorldState, initiator_at}
-use Rattle.sbp_world.specs.Agents.AskedRuns.{IsAccessFor}
 use Rattle.sbp_world.proofs.Agents.Management.Holding.{Holding}
 use Rattle.sbp_world.proofs.Agents.Management.Still.{hist}
-use Rattle.sbp_world.specs.Lists.Along.{GoesAlong}
-use Rattle.sbp_world.specs.Lists.Closes.{AreUntaken}
-use Rattle.sbp_world.specs.Lists.CutOff.{AreForOrbs, HadSlot, IsForOrb, IsInSlot, ahead, in_generation}
-use Rattle.sbp_world.specs.Lists.FewLogins.{IsTameOrFew}
-use Rattle.sbp_world.specs.Lists.Needs.{IsCalm, IsOpenAt, OpenLists, initiator_in, machine_at}
-use Rattle.sbp_world.specs.Lists.Opens.{IsOpened}
-use Rattle.sbp_world.specs.Lists.OwnReads.{data_slot}
-use Rattle.sbp_world.specs.Lists.SlotsStay.{HasSlot}
 use Rattle.sbp_world.proofs.Lists.AheadGots.{buffer_data, fifo_data, no_start, write_data}
 use Rattle.sbp_world.proofs.Lists.Brought.{has_a_table, list}
 use Rattle.sbp_world.proofs.Lists.FedOwners.{one_slot, orb_none}

@@ -1,20 +1,10 @@
 -- In every run in which no initiator injected packets, or few logins were given, and before which lists were open as they should be: the main transaction of an agent that goes into the page table or the
 -- buffer of a slot of an initiator that injected none is for the first ORB of its list that has not ended, which has the slot.
-use Rattle.std.proofs.Common.{◌≡◌, sym, ap, subst, ◌<◌, ◌≤◌, ℕ, Bool, true, false, List, ◌∷◌, ◌++◌, map, length, Option}
-use Rattle.rbc_disk.specs.Runs.{Told}
-use Rattle.sbp_journal.specs.Run.{Moment, asked, said}
-use Rattle.sbp_world.specs.Histories.{history_of}
-use Rattle.sbp_world.specs.Making.{ready_logins}
-use Rattle.sbp_world.specs.Runs.{Run, after, beginning}
-use Rattle.sbp_world.specs.Settling.{MayAll, after_all}
-use Rattle.sbp_world.specs.Worlds.{Scene, WorldState, begun}
+use Rattle.sbp_world.proofs.Words.Std.{◌≡◌, sym, ap, subst, ◌<◌, ◌≤◌, ℕ, Bool, true, false, List, ◌∷◌, ◌++◌, map, length, Option}
+use Rattle.sbp_world.proofs.Words.Wire.{Moment, asked, said}
+use Rattle.sbp_world.proofs.Words.Target.{Told}
+use Rattle.sbp_world.proofs.Words.World.{history_of, ready_logins, Run, after, beginning, MayAll, after_all, Scene, WorldState, begun, IsRun, more_deliveries, Always, AreUntaken, OpenListsLaw, Under, WhereTameOrFew, AreForOrbs, MainSlotsLaw, IsTameOrFew, IsCalm, OpenBefore, OpensLaw}
 use Rattle.sbp_world.proofs.Agents.Management.Still.{hist}
-use Rattle.sbp_world.specs.Hosts.Runs.{IsRun, more_deliveries}
-use Rattle.sbp_world.specs.Lists.Closes.{Always, AreUntaken, OpenListsLaw, Under, WhereTameOrFew}
-use Rattle.sbp_world.specs.Lists.CutOff.{AreForOrbs, MainSlotsLaw}
-use Rattle.sbp_world.specs.Lists.FewLogins.{IsTameOrFew}
-use Rattle.sbp_world.specs.Lists.Needs.{IsCalm, OpenBefore}
-use Rattle.sbp_world.specs.Lists.Opens.{OpensLaw}
 use Rattle.sbp_world.proofs.Lists.Courses.{EveryPlace, more_than_one}
 use Rattle.sbp_world.proofs.Lists.LiveGiven.{ShortLaw}
 use Rattle.sbp_world.proofs.Lists.LiveShort.{here_beside, placed_beside}

@@ -1,34 +1,17 @@
 -- What is in hand of an initiator's management as it does an action: that which begins an operation of management finds nothing in hand.
-use Rattle.std.proofs.Common.{◌≡◌, ◌∙◌, refl, sym, ap, subst, ℕ, ◌+◌, ◌<◌, Bool, true, false, cond, List, Option, Some, None}
-use Rattle.sbp_initiator.specs.Histories.Begins.{after_by, begun_as}
-use Rattle.sbp_initiator.specs.Histories.Ends.{is_managed}
+use Rattle.sbp_world.proofs.Words.Std.{◌≡◌, ◌∙◌, refl, sym, ap, subst, ℕ, ◌+◌, ◌<◌, Bool, true, false, cond, List, Option, Some, None}
+use Rattle.sbp_world.proofs.Words.Wire.{Asked, ReplyKind, Life, under_way, Layer, empty_outbox, Moment, Action, Operation}
+use Rattle.sbp_world.proofs.Words.Initiator.{after_by, begun_as, is_managed, Demand, Purpose, Running, InitiatorState, act_step, asked_as, asked_for, demand_of, demanded_as, done_step, facts_with, judged_as, ring_demand, SessionState, fits_session, refusal, is_unwritten, session_of, is_stuck_seat, Seat}
+use Rattle.sbp_world.proofs.Words.Laws.{operation_of}
 use Rattle.sbp_initiator.proofs.Histories.Actions.{Allowed, done_does}
 use Rattle.sbp_initiator.proofs.Histories.Effects.{HasMarks}
 use Rattle.sbp_initiator.proofs.Histories.Over.{sound}
 use Rattle.sbp_initiator.proofs.Histories.Purposes.{IsOf, all_began, life_of}
-use Rattle.label_table.specs.declared.judgement.Asked.{Asked}
-use Rattle.label_table.specs.declared.reply.ReplyKind.{ReplyKind}
-use Rattle.label_table.specs.History.{Life, under_way}
 use Rattle.label_table.specs.History as wire
-use Rattle.label_table.specs.Layer.{Layer}
-use Rattle.sbp_initiator.specs.declared.purpose.Demand.{Demand}
-use Rattle.sbp_initiator.specs.declared.purpose.Purpose.{Purpose}
 use Rattle.sbp_initiator.specs.declared.purpose.Purpose.TheVariants as purposes
-use Rattle.sbp_initiator.specs.declared.purpose.Running.{Running}
-use Rattle.sbp_initiator.specs.declared.state.InitiatorState.{InitiatorState}
-use Rattle.sbp_initiator.specs.Acting.{act_step, asked_as, asked_for, demand_of, demanded_as, done_step, facts_with, judged_as, ring_demand}
-use Rattle.sbp_initiator.specs.Refusals.{SessionState, fits_session, refusal}
 use Rattle.sbp_initiator.specs.Refusals as refusals
-use Rattle.sbp_initiator.specs.States.{is_unwritten, session_of}
-use Rattle.sbp_journal.specs.Outgoings.{empty_outbox}
-use Rattle.sbp_journal.specs.Run.{Moment}
-use Rattle.sbp_journal.specs.declared.event.Action.{Action}
 use Rattle.sbp_journal.specs.declared.event.Action.TheVariants as actions
-use Rattle.sbp_journal.specs.declared.operation.Operation.{Operation}
 use Rattle.sbp_journal.specs.declared.operation.Operation.TheVariants as operations
-use Rattle.sbp_laws.specs.Hosts.{operation_of}
-use Rattle.sbp_session.specs.Seats.{is_stuck_seat}
-use Rattle.sbp_session.specs.declared.seat.Seat.{Seat}
 use Rattle.sbp_session.specs.declared.seat.Seat.TheVariants as seats
 use Rattle.sbp_world.proofs.Hosts.Hosted.{Cored}
 use Rattle.sbp_world.proofs.Hosts.Lives.{At, at_life}

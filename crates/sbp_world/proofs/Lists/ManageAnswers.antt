@@ -1,29 +1,15 @@
 -- A packet of the target that answers a write of MANAGEMENT_AGENT with conflict_error finds an operation under way: which packets do so, by the history behind the packet that is answered.
-use Rattle.std.proofs.Common.{◌≡◌, ◌∙◌, refl, sym, ap, ℕ, ◌&&◌, ◌==◌, not, Bool, true, false, List, ◌∷◌, Option, Some, None, Result, Ok}
-use Rattle.std.specs.Prelude.{unwrap_or}
-use Rattle.async_packet.specs.declared.fault.PacketFault.{PacketFault}
-use Rattle.async_packet.specs.Fields.{rcode_of, tcode_of}
-use Rattle.async_packet.specs.Packet.{Packet}
-use Rattle.async_packet.specs.Reading.{reading}
+use Rattle.sbp_world.proofs.Words.Std.{◌≡◌, ◌∙◌, refl, sym, ap, ℕ, ◌&&◌, ◌==◌, not, Bool, true, false, List, ◌∷◌, Option, Some, None, Result, Ok, unwrap_or}
+use Rattle.sbp_world.proofs.Words.Wire.{PacketFault, rcode_of, tcode_of, Packet, reading, judged_note, Access, access_of, management_agent, start_at, start_serves, Moment, said, Sending, Transaction, asked_by, Owed, Terms, arrives, ignores, ignores_that, is_news, is_served, judges, judges_if, terms, Cause, Judged}
+use Rattle.sbp_world.proofs.Words.Target.{Operation, Disk}
+use Rattle.sbp_world.proofs.Words.Initiator.{offset_at}
+use Rattle.sbp_world.proofs.Words.Laws.{access_at, access_in, access_in_bytes, answered_as, answered_at, answered_in, id_for, packet_in, sender_in, spelled_by, got_by, is_nothing, over, request_got, target_at}
+use Rattle.sbp_world.proofs.Words.World.{Office, at_rest, office_of, started, started_by, IsAtAgent}
 use Rattle.mgmt_agent.specs.Machine as manager
-use Rattle.mgmt_agent.specs.declared.operation.Operation.{Operation}
-use Rattle.orb_layout.specs.Pointers.{offset_at}
-use Rattle.rbc_disk.specs.Disk.{Disk}
-use Rattle.sbp_bus.specs.Packets.{judged_note}
-use Rattle.sbp_journal.specs.Addresses.{Access, access_of, management_agent, start_at, start_serves}
-use Rattle.sbp_journal.specs.Run.{Moment, said}
-use Rattle.sbp_journal.specs.Transactions.{Sending, Transaction, asked_by}
-use Rattle.sbp_journal.specs.Wire.{Owed, Terms, arrives, ignores, ignores_that, is_news, is_served, judges, judges_if, terms}
-use Rattle.sbp_journal.specs.declared.cause.Cause.{Cause}
 use Rattle.sbp_journal.specs.declared.cause.Cause.TheVariants as causes
-use Rattle.sbp_journal.specs.declared.cause.Judged.{Judged}
 use Rattle.sbp_journal.specs.declared.note.Note.TheVariants as notes
-use Rattle.sbp_laws.specs.Packets.{access_at, access_in, access_in_bytes, answered_as, answered_at, answered_in, id_for, packet_in, sender_in, spelled_by}
-use Rattle.sbp_laws.specs.Targets.{got_by, is_nothing, over, request_got, target_at}
-use Rattle.sbp_world.specs.Agents.Management.Offices.{Office, at_rest, office_of, started, started_by}
 use Rattle.sbp_world.proofs.Agents.Management.Firsts.{got_here, request_keeps, served_office}
 use Rattle.sbp_world.proofs.Agents.Management.Offices.{over_keeps}
-use Rattle.sbp_world.specs.Lists.Managing.{IsAtAgent}
 use Rattle.sbp_world.proofs.Lists.ManageCalls.{IsElsewhere}
 use Rattle.sbp_world.proofs.Lists.ManageCodes.{NoConflict}
 use Rattle.sbp_world.proofs.Lists.ManageGot.{writing_in}

@@ -1,23 +1,13 @@
 -- A block write of an initiator that names a place of management is sent in the line of an action that begins an operation of management: of what else an initiator writes,
 -- ORB_POINTER names the ORB of a slot, and the others are quadlets.
-use Rattle.std.proofs.Common.{arith, ◌≡◌, ◌∙◌, refl, sym, ap, subst, ℕ, suc, ◌+◌, ◌*◌, ◌<◌, ◌==◌, nat_eq, Bool, true, false, cond, List, [], ◌∷◌, Option, Some}
-use Rattle.std.proofs.lemmas.Bool.Decides.{nat_tests}
+use Rattle.sbp_world.proofs.Words.Std.{arith, ◌≡◌, ◌∙◌, refl, sym, ap, subst, ℕ, suc, ◌+◌, ◌*◌, ◌<◌, ◌==◌, nat_eq, Bool, true, false, cond, List, [], ◌∷◌, Option, Some, nat_tests, big_bytes}
+use Rattle.sbp_world.proofs.Words.Wire.{Access, Moment, said, Sending, terms, Action}
+use Rattle.sbp_world.proofs.Words.Initiator.{start_of, offset_at}
+use Rattle.sbp_world.proofs.Words.Laws.{host_at, operation_of, lowest_vacant, slot_at, slots, access_in_bytes, EachMoment}
+use Rattle.sbp_world.proofs.Words.World.{MayAsk, MayPoint, MaySend, MayStand, MayWrite, manages, pointer_write, register_write, writes_bell, writes_enable, writes_management, writes_pointer, writes_reset, IsAsking}
 use Rattle.bus_memory.specs.declared.window.Window.TheVariants as windows
-use Rattle.bus_memory.specs.Windows.{start as start_of}
-use Rattle.byteorder.specs.Endian.{big_bytes}
-use Rattle.orb_layout.specs.Pointers.{offset_at}
-use Rattle.sbp_journal.specs.Addresses.{Access}
-use Rattle.sbp_journal.specs.Run.{Moment, said}
-use Rattle.sbp_journal.specs.Transactions.{Sending}
-use Rattle.sbp_journal.specs.Wire.{terms}
-use Rattle.sbp_journal.specs.declared.event.Action.{Action}
 use Rattle.sbp_journal.specs.declared.note.Note.TheVariants as notes
-use Rattle.sbp_laws.specs.Hosts.{host_at, operation_of}
-use Rattle.sbp_laws.specs.Lists.{lowest_vacant, slot_at, slots}
-use Rattle.sbp_laws.specs.Packets.{access_in_bytes}
-use Rattle.sbp_laws.specs.Turns.{EachMoment}
-use Rattle.sbp_world.specs.Pointers.Moments.{IsWritten, MayAsk, MayPoint, MaySend, MayStand, MayWrite, manages, pointer_write, register_write, writes_bell, writes_enable, writes_management, writes_pointer, writes_reset}
-use Rattle.sbp_world.specs.Lists.Managing.{IsAsking}
+use Rattle.sbp_world.specs.Pointers.Moments.{IsWritten}
 use Rattle.sbp_world.proofs.Lists.ManageLines.{IsManagingLine, eight_at}
 use Rattle.sbp_world.proofs.Lists.ManageSends.{sent_is, sent_terms}
 use Rattle.sbp_world.proofs.Lists.ManageTerms.{same_some}

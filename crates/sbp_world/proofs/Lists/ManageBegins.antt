@@ -1,40 +1,21 @@
 -- An initiator does an action: what is in hand of its management behind it.
-use Rattle.std.proofs.Common.{arith, ◌≡◌, ◌∙◌, refl, sym, ap, subst, ℕ, suc, ◌<◌, nat_eq, Bool, true, false, cond, List, [], ◌∷◌, Option, Some, None}
-use Rattle.std.proofs.lemmas.Bool.Decides.{nat_tests}
-use Rattle.sbp_initiator.specs.Histories.Begins.{IsFree as FreeFor, after_by, begun_as}
-use Rattle.sbp_initiator.specs.Histories.Ends.{is_managed}
+use Rattle.sbp_world.proofs.Words.Std.{arith, ◌≡◌, ◌∙◌, refl, sym, ap, subst, ℕ, suc, ◌<◌, nat_eq, Bool, true, false, cond, List, [], ◌∷◌, Option, Some, None, nat_tests, upd}
+use Rattle.sbp_world.proofs.Words.Wire.{Layer, empty_outbox, Moment, said, Sending, Terms, terms, Action, Operation, Outgoing}
+use Rattle.sbp_world.proofs.Words.Target.{Disk}
+use Rattle.sbp_world.proofs.Words.Initiator.{FreeFor, after_by, begun_as, is_managed, Purpose, Running, InitiatorState, act_step, Turn, is_stuck_seat}
+use Rattle.sbp_world.proofs.Words.Laws.{Underway, host_at, is_management, operation_of, event_of}
+use Rattle.sbp_world.proofs.Words.World.{behind, manages, IsAsking, IsBusy, IsFree, IsOwnWrite}
 use Rattle.sbp_initiator.proofs.Histories.Actions.{Allowed}
-use Rattle.label_table.specs.Layer.{Layer}
-use Rattle.rbc_disk.specs.Disk.{Disk}
-use Rattle.sbp_initiator.specs.declared.purpose.Purpose.{Purpose}
 use Rattle.sbp_initiator.specs.declared.purpose.Purpose.TheVariants as purposes
-use Rattle.sbp_initiator.specs.declared.purpose.Running.{Running}
-use Rattle.sbp_initiator.specs.declared.state.InitiatorState.{InitiatorState}
-use Rattle.sbp_initiator.specs.Acting.{act_step}
-use Rattle.sbp_initiator.specs.Effects.{Turn}
 use Rattle.sbp_initiator.specs.Refusals as refusals
-use Rattle.sbp_base.specs.Update.{upd}
-use Rattle.sbp_journal.specs.Outgoings.{empty_outbox}
-use Rattle.sbp_journal.specs.Run.{Moment, said}
-use Rattle.sbp_journal.specs.Transactions.{Sending}
-use Rattle.sbp_journal.specs.Wire.{Terms, terms}
-use Rattle.sbp_journal.specs.declared.event.Action.{Action}
 use Rattle.sbp_journal.specs.declared.event.Event.TheVariants as events
 use Rattle.sbp_journal.specs.declared.note.Note.TheVariants as notes
-use Rattle.sbp_journal.specs.declared.operation.Operation.{Operation}
-use Rattle.sbp_journal.specs.declared.outbox.Outgoing.{Outgoing}
-use Rattle.sbp_laws.specs.Hosts.{Underway, host_at, is_management, operation_of}
-use Rattle.sbp_laws.specs.Turns.{event_of}
-use Rattle.sbp_session.specs.Seats.{is_stuck_seat}
-use Rattle.sbp_world.specs.Hosts.Calls.{behind}
 use Rattle.sbp_world.proofs.Hosts.ActLeft.{ActLeft, HasAsked}
 use Rattle.sbp_world.proofs.Hosts.Asked.{IsRequest, number_in}
 use Rattle.sbp_world.proofs.Hosts.Hosted.{Cored, marks_of}
 use Rattle.sbp_world.proofs.Hosts.PointerNotes.{Told, tame_told}
 use Rattle.sbp_world.proofs.Hosts.Pointing.{called_of}
 use Rattle.sbp_world.proofs.Hosts.Shown.{IsShown}
-use Rattle.sbp_world.specs.Pointers.Moments.{manages}
-use Rattle.sbp_world.specs.Lists.Managing.{IsAsking, IsBusy, IsFree, IsOwnWrite}
 use Rattle.sbp_world.proofs.Lists.ManageActs.{IsNew, act_operation, demand_manages, earlier, new_by, same_operation, seat_unstuck}
 use Rattle.sbp_world.proofs.Lists.ManageFirsts.{Goes, HasBegun, begun_first, goes_then, kept_first, told_first}
 use Rattle.sbp_world.proofs.Lists.ManageHand.{InHand, Own, busy_on}

@@ -1,36 +1,14 @@
 -- What a target hands out in a call answers no write with conflict_error; but for the first packet behind one that comes, which does so as it ignores that one, where the one that came does
 -- not start an operation, or as it finds one under way.
-use Rattle.std.proofs.Common.{arith, ◌≡◌, ◌∙◌, refl, sym, ap, subst, ℕ, ◌≤◌, ◌%◌, ◌^◌, ◌&&◌, ◌||◌, not, is_some, Bool, true, false, cond, List, [], ◌∷◌, ◌++◌, length, Option, Some, None, Ok}
-use Rattle.async_packet.specs.Labels.{LabelParts}
-use Rattle.async_packet.specs.Packet.{Packet, header_in}
-use Rattle.async_packet.specs.Reading.{reading}
-use Rattle.label_table.specs.declared.judgement.Asked.{Asked}
-use Rattle.label_table.specs.Layer.{Finding, Layer, answering_step, asking_step, disowning_in, disowning_step, expiring_step, peer_place, judging_step, of_again, of_generation, of_grammar, of_label, of_request, of_response, seeing_step}
-use Rattle.login_table.specs.Table.{tick_step}
-use Rattle.mgmt_agent.specs.declared.operation.Operation.{Operation}
+use Rattle.sbp_world.proofs.Words.Std.{arith, ◌≡◌, ◌∙◌, refl, sym, ap, subst, ℕ, ◌≤◌, ◌%◌, ◌^◌, ◌&&◌, ◌||◌, not, is_some, Bool, true, false, cond, List, [], ◌∷◌, ◌++◌, length, Option, Some, None, Ok}
+use Rattle.sbp_world.proofs.Words.Wire.{LabelParts, Packet, header_in, reading, Asked, Finding, Layer, answering_step, asking_step, disowning_in, disowning_step, expiring_step, peer_place, judging_step, of_again, of_generation, of_grammar, of_label, of_request, of_response, seeing_step, Access, Start, access_of, management_agent, no_start, register, rom_start, start_at, start_serves, Cause, Judged, Outgoing, OutboxState, empty_outbox, RequestFacts, TargetFacts, first_or, ignored_as, judging_of, serving, target_rcode, telling}
+use Rattle.sbp_world.proofs.Words.Target.{tick_step, Operation, Disk, Told, Purpose, NodeState, Scene, scene, answer_in, expired, judged_scene, received, received_as, seen, ticked, Whole, whole, answer_step, answered_by, answered, is_barred, serve, served_as, start, started_by, address_error, conflict_error, demand_of, response_of, BeginsWith, asked_at, facts_at, gives_at, judged_by, row_gives, row_rcode, state_rcode, request, with_asked}
+use Rattle.sbp_world.proofs.Words.Initiator.{offset_at}
 use Rattle.mgmt_agent.specs.Machine as management
-use Rattle.orb_layout.specs.Pointers.{offset_at}
-use Rattle.rbc_disk.specs.Disk.{Disk}
-use Rattle.rbc_disk.specs.Runs.{Told}
-use Rattle.sbp_journal.specs.Addresses.{Access, Start, access_of, management_agent, no_start, register, rom_start, start_at, start_serves}
-use Rattle.sbp_journal.specs.declared.cause.Cause.{Cause}
 use Rattle.sbp_journal.specs.declared.cause.Cause.TheVariants as causes
-use Rattle.sbp_journal.specs.declared.cause.Judged.{Judged}
 use Rattle.sbp_journal.specs.declared.cause.Judged.TheVariants as judgements
-use Rattle.sbp_journal.specs.declared.outbox.Outgoing.{Outgoing}
-use Rattle.sbp_journal.specs.Outgoings.{OutboxState, empty_outbox}
-use Rattle.sbp_journal.specs.Rows.{RequestFacts, TargetFacts, first_or, ignored_as, judging_of, serving, target_rcode, telling}
-use Rattle.sbp_target.specs.declared.purpose.Purpose.{Purpose}
-use Rattle.sbp_target.specs.Nodes.{NodeState, Scene, scene}
-use Rattle.sbp_target.specs.Receiving.{answer_in, expired, judged_scene, received, received_as, seen, ticked}
-use Rattle.sbp_target.specs.Replies.{Whole, whole}
-use Rattle.sbp_target.specs.Sending.{answer_step, answered_by}
-use Rattle.sbp_target.specs.Serving.{answered, is_barred, request_step, serve, served_as, start, started_by}
+use Rattle.sbp_target.specs.Serving.{request_step}
 use Rattle.target_base.specs.declared.address.Demand.TheVariants as demands
-use Rattle.target_base.specs.Addresses.{address_error, conflict_error, demand_of}
-use Rattle.sbp_target.specs.Histories.Answers.{response_of}
-use Rattle.sbp_target.specs.Histories.Judgements.{BeginsWith, asked_at, facts_at, gives_at, judged_by, row_gives, row_rcode, state_rcode}
-use Rattle.sbp_target.specs.Histories.Layers.{request, with_asked}
 use Rattle.sbp_target.proofs.Histories.Found.{IsFound, found as found_as}
 use Rattle.sbp_target.proofs.Histories.Pass.{Keeps, Said, concludes, expires_in, sees_by, ticks_by}
 use Rattle.sbp_target.proofs.Histories.Rowing.{row_law}

@@ -1,22 +1,7 @@
 -- Which packets of a target answer a write with conflict_error, 4 (IEEE 1394-1995, write response): no request does, and a response does where that is its rcode.
-use Rattle.std.proofs.Common.{arith, ◌≡◌, ◌∙◌, refl, sym, ap, ℕ, ◌+◌, ◌*◌, ◌/◌, ◌%◌, ◌^◌, ◌<◌, ◌==◌, Bool, true, false, cond, List, ◌++◌, Option, Some, None}
-use Rattle.std.proofs.lemmas.Bool.Decides.{nat_tests}
-use Rattle.async_packet.specs.declared.fault.PacketFault.{PacketFault}
-use Rattle.async_packet.specs.declared.packet.Header.{Header}
-use Rattle.async_packet.specs.Canon.{canon, four, three}
-use Rattle.async_packet.specs.Faults.{fault_of}
-use Rattle.async_packet.specs.Fields.{rcode_of, tcode_of}
-use Rattle.async_packet.specs.Packet.{Packet, lock, lock_response, read_block, read_block_response, read_quadlet, read_quadlet_response, write_block, write_quadlet, write_response}
-use Rattle.async_packet.specs.Reading.{packet_in, reading, unless_fault}
-use Rattle.byteorder.specs.Endian.{big_bytes}
-use Rattle.byteorder.specs.Numbers.{big_from-bytes}
-use Rattle.label_table.specs.declared.judgement.Asked.{Asked}
-use Rattle.label_table.specs.Bodies.{Body, block_read, block_write, header_to, quadlet_read, quadlet_write, request_with, response_to}
-use Rattle.label_table.specs.Layer.{Layer, asked_at, asking_in, asking_step, peer_at, peer_place, unlabelled}
-use Rattle.label_table.specs.Peers.{begun_for}
-use Rattle.label_table.specs.Requests.{with_label}
-use Rattle.label_table.specs.Table.{begin_at, begin_step, lowest_from}
-use Rattle.sbp_journal.specs.Transactions.{Kind, locking, no_packet, part_by, part_in, part_of, reading_block, reading_quadlet, request, response, writing}
+use Rattle.sbp_world.proofs.Words.Std.{arith, ◌≡◌, ◌∙◌, refl, sym, ap, ℕ, ◌+◌, ◌*◌, ◌/◌, ◌%◌, ◌^◌, ◌<◌, ◌==◌, Bool, true, false, cond, List, ◌++◌, Option, Some, None, nat_tests, big_bytes, big_from-bytes}
+use Rattle.sbp_world.proofs.Words.Wire.{PacketFault, Header, canon, four, three, fault_of, rcode_of, tcode_of, Packet, lock, lock_response, read_block, read_block_response, read_quadlet, read_quadlet_response, write_block, write_quadlet, write_response, packet_in, reading, unless_fault, Asked, Body, block_read, block_write, header_to, quadlet_read, quadlet_write, request_with, response_to, Layer, asked_at, asking_in, asking_step, peer_at, peer_place, unlabelled, begun_for, with_label, begin_at, begin_step, lowest_from, Kind, locking, part_by, part_in, part_of, reading_block, reading_quadlet, request, response, writing}
+use Rattle.sbp_journal.specs.Transactions.{no_packet}
 use Rattle.sbp_world.proofs.Hosts.Mild.{quad_tcode, tcode_same}
 use Rattle.sbp_world.proofs.Common.{untrue}
 

@@ -1,33 +1,15 @@
 -- What a response that an initiator hears spells, which transaction it closes, and that a status block of its management is got.
-use Rattle.std.proofs.Common.{arith, ◌≡◌, refl, sym, ◌∙◌, ap, subst, ℕ, ◌==◌, ◌&&◌, not, is_some, Bool, true, false, cond, List, ◌∷◌, Option, Some, None, Result, Ok, Err}
-use Rattle.std.proofs.lemmas.Bool.Decides.{nat_tests}
-use Rattle.async_packet.specs.declared.fault.PacketFault.{PacketFault}
-use Rattle.async_packet.specs.Faults.{fault_of}
-use Rattle.async_packet.specs.Fields.{rcode_of, tcode_of, value_of}
-use Rattle.async_packet.specs.Labels.{LabelParts}
-use Rattle.async_packet.specs.Packet.{Packet, header_in, write_block}
-use Rattle.async_packet.specs.Reading.{packet_in, reading, unless_fault}
-use Rattle.initiator_base.specs.declared.fifos.Fifo.{Fifo}
+use Rattle.sbp_world.proofs.Words.Std.{arith, ◌≡◌, refl, sym, ◌∙◌, ap, subst, ℕ, ◌==◌, ◌&&◌, not, is_some, Bool, true, false, cond, List, ◌∷◌, Option, Some, None, Result, Ok, Err, nat_tests}
+use Rattle.sbp_world.proofs.Words.Wire.{PacketFault, fault_of, rcode_of, tcode_of, value_of, LabelParts, Packet, header_in, write_block, packet_in, reading, unless_fault, ReplyKind, Finding, Layer, facts_of, judged_by, judging_step, of_request, of_response, responded, Row, by_again, by_generation, by_grammar, by_label, by_request, by_response, row_of, Life, Told, and_before, ended, life, told_by_finding, told_closed, under_way, state_for, reply_kind, OutboxState, empty_outbox, Judged}
+use Rattle.sbp_world.proofs.Words.Target.{is_block}
+use Rattle.sbp_world.proofs.Words.Initiator.{Fifo, Purpose, Running, InitiatorState, addressed, block_at, block_by, block_step, fifo_of, is_foreign, managed_for, present_for, receive_step, received, request_step, status_step, ending_by, ending_of, status_in}
+use Rattle.sbp_world.proofs.Words.World.{is_open}
 use Rattle.initiator_base.specs.declared.fifos.Fifo.TheVariants as fifos
-use Rattle.label_table.specs.declared.reply.ReplyKind.{ReplyKind}
-use Rattle.label_table.specs.Layer.{Finding, Layer, facts_of, judged_by, judging_step, of_request, of_response, responded}
-use Rattle.label_table.specs.Judging.{Row, by_again, by_generation, by_grammar, by_label, by_request, by_response, row_of}
-use Rattle.label_table.specs.History.{Life, Told, and_before, ended, is_same, judges, life, told_by_finding, told_closed, under_way}
+use Rattle.label_table.specs.History.{is_same, judges}
 use Rattle.label_table.specs.History as wire
-use Rattle.label_table.specs.Peers.{state_for}
-use Rattle.label_table.specs.Requests.{reply_kind}
 use Rattle.label_table.proofs.Calls.{after_kept, told_law}
-use Rattle.media_bay.specs.Unsolicited.{is_block}
 use Rattle.sbp_initiator.specs.declared.purpose.Ending.TheVariants as endings
-use Rattle.sbp_initiator.specs.declared.purpose.Purpose.{Purpose}
-use Rattle.sbp_initiator.specs.declared.purpose.Running.{Running}
-use Rattle.sbp_initiator.specs.declared.state.InitiatorState.{InitiatorState}
-use Rattle.sbp_initiator.specs.Receiving.{addressed, block_at, block_by, block_step, fifo_of, is_foreign, managed_for, present_for, receive_step, received, request_step, status_step}
-use Rattle.sbp_initiator.specs.States.{ending_by, ending_of, status_in}
-use Rattle.sbp_journal.specs.Outgoings.{OutboxState, empty_outbox}
-use Rattle.sbp_journal.specs.declared.cause.Judged.{Judged}
 use Rattle.sbp_journal.specs.declared.cause.Judged.TheVariants as judgements
-use Rattle.sbp_world.specs.Sessions.Entering.{is_open}
 use Rattle.sbp_initiator.proofs.Histories.Lives.{of_same}
 use Rattle.sbp_initiator.proofs.Histories.Purposes.{kind_in}
 use Rattle.sbp_world.proofs.Hosts.Lives.{At, Called, at_life}

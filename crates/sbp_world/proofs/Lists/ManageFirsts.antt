@@ -1,25 +1,16 @@
 -- The first request of an operation under way at a host is the same from note to note, but for the packet by which an operation begins.
-use Rattle.std.proofs.Common.{◌≡◌, refl, sym, ◌∙◌, ap, ℕ, zero, suc, ◌%◌, ◌&&◌, not, nat_eq, Bool, true, false, cond, List, [], ◌∷◌, Option, Some, None}
-use Rattle.orb_layout.specs.Replies.{Answer, Done, Expired, NoLabel, Payload, Refused}
-use Rattle.sbp_journal.specs.Run.{Moment, asked, said}
-use Rattle.sbp_journal.specs.Transactions.{Kind, Part, no_packet, part_of, request, response}
-use Rattle.sbp_journal.specs.Wire.{Terms, terms}
-use Rattle.sbp_journal.specs.declared.event.Action.{Action}
+use Rattle.sbp_world.proofs.Words.Std.{◌≡◌, refl, sym, ◌∙◌, ap, ℕ, zero, suc, ◌%◌, ◌&&◌, not, nat_eq, Bool, true, false, cond, List, [], ◌∷◌, Option, Some, None}
+use Rattle.sbp_world.proofs.Words.Wire.{Moment, asked, said, Kind, Part, part_of, request, response, Terms, terms, Action, Event, Note, Operation, OpWord, Side}
+use Rattle.sbp_world.proofs.Words.Initiator.{Answer, Done, Expired, NoLabel, Payload, Refused}
+use Rattle.sbp_world.proofs.Words.Laws.{present_list, answer_in, answered_at, packet_at, receiver_in, sender_in, event_of, Host, Underway, acted, begin_operation, goes_on, host_at, known_host, list_begins, op_ended, operation_of, pointer_answered, ring, sent_in}
+use Rattle.sbp_world.proofs.Words.World.{behind}
+use Rattle.sbp_journal.specs.Transactions.{no_packet}
 use Rattle.sbp_journal.specs.declared.event.Action.TheVariants as actions
-use Rattle.sbp_journal.specs.declared.event.Event.{Event}
 use Rattle.sbp_journal.specs.declared.event.Event.TheVariants as events
-use Rattle.sbp_journal.specs.declared.note.Note.{Note}
 use Rattle.sbp_journal.specs.declared.note.Note.TheVariants as notes
-use Rattle.sbp_journal.specs.declared.operation.Operation.{Operation}
 use Rattle.sbp_journal.specs.declared.operation.Operation.TheVariants as operations
-use Rattle.sbp_journal.specs.declared.operation.OpWord.{OpWord}
-use Rattle.sbp_journal.specs.declared.side.Side.{Side}
 use Rattle.sbp_journal.specs.declared.side.Side.TheVariants as sides
-use Rattle.sbp_laws.specs.Lists.{present_list}
-use Rattle.sbp_laws.specs.Packets.{answer_in, answered_at, packet_at, receiver_in, sender_in}
-use Rattle.sbp_laws.specs.Turns.{event_of}
-use Rattle.sbp_laws.specs.Hosts.{Host, Underway, acted, begin_operation, goes_on, got_by, host_at, is_serial, known_host, list_begins, op_ended, operation_of, pointer_answered, reset_seen, ring, sent_as, sent_in}
-use Rattle.sbp_world.specs.Hosts.Calls.{behind}
+use Rattle.sbp_laws.specs.Hosts.{got_by, is_serial, reset_seen, sent_as}
 use Rattle.sbp_world.proofs.Hosts.Carries.{IsNoAct}
 use Rattle.sbp_world.proofs.Hosts.Cores.{wire_is}
 use Rattle.sbp_world.proofs.Hosts.Layered.{AreTame, is_tame}

@@ -1,24 +1,14 @@
 -- A packet is got: where it starts an operation of an initiator at the target, it is the write that waited, and nothing else was in hand; and else what is in hand stays.
-use Rattle.std.proofs.Common.{arith, ◌≡◌, ◌∙◌, ◌⊎◌, inl, inr, refl, sym, ap, subst, ℕ, suc, ◌<◌, nat_eq, Bool, true, false, List, ◌∷◌, Option, Some, None, Result, Ok, Err}
-use Rattle.std.proofs.lemmas.Bool.Decides.{nat_tests}
-use Rattle.std.proofs.lemmas.Option.{same_Some}
-use Rattle.async_packet.specs.declared.fault.PacketFault.{PacketFault}
-use Rattle.async_packet.specs.Packet.{Packet, lock, lock_response, read_block, read_block_response, read_quadlet, read_quadlet_response, write_block, write_quadlet, write_response}
-use Rattle.async_packet.specs.Reading.{reading}
+use Rattle.sbp_world.proofs.Words.Std.{arith, ◌≡◌, ◌∙◌, ◌⊎◌, inl, inr, refl, sym, ap, subst, ℕ, suc, ◌<◌, nat_eq, Bool, true, false, List, ◌∷◌, Option, Some, None, Result, Ok, Err, nat_tests, same_Some}
+use Rattle.sbp_world.proofs.Words.Wire.{PacketFault, Packet, lock, lock_response, read_block, read_block_response, read_quadlet, read_quadlet_response, write_block, write_quadlet, write_response, reading, Access, access_of, Moment, said, Sending, Transaction, between, part_of, request, writing, Owed, Terms, terms}
+use Rattle.sbp_world.proofs.Words.Target.{Operation, Disk}
+use Rattle.sbp_world.proofs.Words.Initiator.{offset_at}
+use Rattle.sbp_world.proofs.Words.Laws.{access_at, access_in, access_in_bytes, id_for, packet_in, spelled_by, target_at}
+use Rattle.sbp_world.proofs.Words.World.{IsAccepted, IsAsking, IsBusy, IsFree, IsHandling, IsOwnWrite, IsRest, IsServed, IsTaking, asks}
 use Rattle.bus_transactions.proofs.PacketParts.{part_read}
 use Rattle.bus_transactions.proofs.Facts.{request_asked}
-use Rattle.mgmt_agent.specs.declared.operation.Operation.{Operation}
 use Rattle.mgmt_agent.specs.declared.operation.Phase.TheVariants as phases
-use Rattle.orb_layout.specs.Pointers.{offset_at}
-use Rattle.rbc_disk.specs.Disk.{Disk}
-use Rattle.sbp_journal.specs.Addresses.{Access, access_of}
-use Rattle.sbp_journal.specs.Run.{Moment, said}
-use Rattle.sbp_journal.specs.Transactions.{Sending, Transaction, between, part_of, request, writing}
-use Rattle.sbp_journal.specs.Wire.{Owed, Terms, terms}
 use Rattle.sbp_journal.specs.declared.note.Note.TheVariants as notes
-use Rattle.sbp_laws.specs.Packets.{access_at, access_in, access_in_bytes, id_for, packet_in, spelled_by}
-use Rattle.sbp_laws.specs.Targets.{target_at}
-use Rattle.sbp_world.specs.Lists.Managing.{IsAccepted, IsAsking, IsBusy, IsFree, IsHandling, IsOwnWrite, IsRest, IsServed, IsTaking, asks}
 use Rattle.sbp_world.proofs.Lists.ManageNotes.{none_taken}
 use Rattle.sbp_world.proofs.Lists.ManageOffices.{GotAs, Starts, got_as, got_other, got_replies, got_settles, got_starts}
 use Rattle.sbp_world.proofs.Lists.ManageStays.{Calms, Had, calm_busy, calm_free, calm_served, replies_handling, rests_accepted, rests_asking, rests_calm, rests_handling, rests_own, rests_telling, zero_or}

@@ -1,22 +1,14 @@
 -- What is in hand of an initiator's management, by what the initiator has: it stays as others tell and do something.
-use Rattle.std.proofs.Common.{arith, ◌≡◌, ◌∙◌, refl, sym, ap, subst, ℕ, suc, nat_eq, true, false, List, ◌∷◌, Option, Some}
-use Rattle.std.proofs.lemmas.Bool.Decides.{nat_tests}
-use Rattle.rbc_disk.specs.Disk.{Disk}
-use Rattle.sbp_initiator.specs.declared.purpose.Running.{Running}
-use Rattle.sbp_initiator.specs.declared.state.InitiatorState.{InitiatorState}
-use Rattle.sbp_journal.specs.Run.{Moment, asked, said}
-use Rattle.sbp_journal.specs.Transactions.{Sending}
-use Rattle.sbp_journal.specs.Wire.{terms}
-use Rattle.sbp_journal.specs.declared.event.Event.{Event}
-use Rattle.sbp_journal.specs.declared.note.Note.{Note}
+use Rattle.sbp_world.proofs.Words.Std.{arith, ◌≡◌, ◌∙◌, refl, sym, ap, subst, ℕ, suc, nat_eq, true, false, List, ◌∷◌, Option, Some, nat_tests}
+use Rattle.sbp_world.proofs.Words.Wire.{Moment, asked, said, Sending, terms, Event, Note}
+use Rattle.sbp_world.proofs.Words.Target.{Disk}
+use Rattle.sbp_world.proofs.Words.Initiator.{Running, InitiatorState, is_stuck_seat}
+use Rattle.sbp_world.proofs.Words.Laws.{Underway, host_at, is_management, event_of}
+use Rattle.sbp_world.proofs.Words.World.{IsAsking, IsBusy, IsFree}
 use Rattle.sbp_journal.specs.declared.note.Note.TheVariants as notes
-use Rattle.sbp_laws.specs.Hosts.{Underway, host_at, is_management}
-use Rattle.sbp_laws.specs.Turns.{event_of}
-use Rattle.sbp_session.specs.Seats.{is_stuck_seat}
 use Rattle.sbp_world.proofs.Hosts.Carries.{IsNoAct, is_apart}
 use Rattle.sbp_world.proofs.Hosts.PointerNotes.{apart_passes}
 use Rattle.sbp_world.proofs.Hosts.Shown.{IsElsewhere}
-use Rattle.sbp_world.specs.Lists.Managing.{IsAsking, IsBusy, IsFree}
 use Rattle.sbp_world.proofs.Lists.ManageFirsts.{Goes, is_begin, line_first, note_first, other_first, sent_first}
 use Rattle.sbp_world.proofs.Lists.ManageGot.{got_busy, got_free}
 use Rattle.sbp_world.proofs.Lists.ManageLabels.{Asks, asks_to, line_asks, sent_asks, still_asks}

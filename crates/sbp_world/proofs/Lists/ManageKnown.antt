@@ -1,39 +1,18 @@
 -- What is known of each moment for the management of an initiator that injected no packets, by the wire.
-use Rattle.std.proofs.Common.{arith, ◌≡◌, ◌∙◌, refl, sym, ap, subst, ℕ, suc, ◌<◌, ◌&&◌, not, nat_eq, Bool, true, false, cond, List, [], ◌∷◌, Option, Some, None, Ok}
-use Rattle.std.proofs.lemmas.Bool.Decides.{nat_tests}
-use Rattle.async_packet.specs.declared.packet.Header.{Header}
-use Rattle.async_packet.specs.Fields.{rcode_of}
-use Rattle.async_packet.specs.Packet.{write_block}
-use Rattle.async_packet.specs.Reading.{reading}
+use Rattle.sbp_world.proofs.Words.Std.{arith, ◌≡◌, ◌∙◌, refl, sym, ap, subst, ℕ, suc, ◌<◌, ◌&&◌, not, nat_eq, Bool, true, false, cond, List, [], ◌∷◌, Option, Some, None, Ok, nat_tests}
+use Rattle.sbp_world.proofs.Words.Wire.{Header, rcode_of, write_block, reading, AreAnswered, IsSentFor, AreJudged, may_get, SerialsCount, AreSent, is_stated, transaction, RowFacts, Row, by_generation, row_of, is_write, Moment, asked, said, Kind, Part, Sending, Transaction, asked_by, between, is_same, is_same_kind, part_of, request, response, writing, Held, Owed, Terms, arrives, asked_in, closes, closes_if, free, gets, gets_as, is_news, is_served, judges, rests, terms, waits, Action}
+use Rattle.sbp_world.proofs.Words.Target.{Disk}
+use Rattle.sbp_world.proofs.Words.Initiator.{start_of, fifo_at, StatusBlock, status_in}
+use Rattle.sbp_world.proofs.Words.Laws.{operation_of, answered_as, answered_at, answered_in, closed_by, EachMoment, event_of}
+use Rattle.sbp_world.proofs.Words.World.{manages, is_open, IsAsking, IsAtAgent, IsFree, IsTelling, IsCalm}
 use Rattle.bus_memory.specs.declared.window.Window.TheVariants as windows
-use Rattle.bus_memory.specs.Windows.{start as start_of}
-use Rattle.bus_transactions.specs.Answers.{AreAnswered, IsSentFor}
-use Rattle.bus_transactions.specs.Judging.{AreJudged, facts_of, may_get}
-use Rattle.bus_transactions.specs.Packets.{SerialsCount}
-use Rattle.bus_transactions.specs.Sent.{AreSent}
-use Rattle.bus_transactions.specs.Wire.{is_stated, transaction}
+use Rattle.bus_transactions.specs.Judging.{facts_of}
 use Rattle.bus_transactions.proofs.Facts.{Facts, asked_begun, asked_is, begun_asked, both, fair, request_asked}
 use Rattle.bus_transactions.proofs.PacketParts.{asking_read, part_read, request_read, same_is}
-use Rattle.initiator_base.specs.Fifos.{fifo_at}
-use Rattle.label_table.specs.Judging.{Facts as RowFacts, Row, by_generation, row_of}
-use Rattle.label_table.specs.Requests.{is_write}
-use Rattle.orb_layout.specs.declared.status.StatusBlock.{StatusBlock}
 use Rattle.orb_layout.specs.declared.status.StatusKind.TheVariants as kinds
-use Rattle.rbc_disk.specs.Disk.{Disk}
-use Rattle.sbp_initiator.specs.States.{status_in}
-use Rattle.sbp_journal.specs.Run.{Moment, asked, said}
-use Rattle.sbp_journal.specs.Transactions.{Kind, Part, Sending, Transaction, asked_by, between, is_same, is_same_kind, no_packet, part_of, request, response, writing}
-use Rattle.sbp_journal.specs.Wire.{Held, Owed, Terms, arrives, asked_in, closes, closes_if, free, gets, gets_as, is_news, is_served, judges, rests, terms, waits}
-use Rattle.sbp_journal.specs.declared.event.Action.{Action}
+use Rattle.sbp_journal.specs.Transactions.{no_packet}
 use Rattle.sbp_journal.specs.declared.event.Event.TheVariants as events
 use Rattle.sbp_journal.specs.declared.note.Note.TheVariants as notes
-use Rattle.sbp_laws.specs.Hosts.{operation_of}
-use Rattle.sbp_laws.specs.Packets.{answered_as, answered_at, answered_in, closed_by}
-use Rattle.sbp_laws.specs.Turns.{EachMoment, event_of}
-use Rattle.sbp_world.specs.Pointers.Moments.{manages}
-use Rattle.sbp_world.specs.Sessions.Entering.{is_open}
-use Rattle.sbp_world.specs.Lists.Managing.{IsAsking, IsAtAgent, IsFree, IsTelling}
-use Rattle.sbp_world.specs.Lists.Needs.{IsCalm}
 use Rattle.sbp_world.proofs.Lists.Calm.{injects_before}
 use Rattle.sbp_world.proofs.Lists.ManageGot.{IsWriting}
 use Rattle.sbp_world.proofs.Lists.ManageMoments.{Hands, IsActing, IsAnswer, LineFacts, SendFacts, TakeFacts}

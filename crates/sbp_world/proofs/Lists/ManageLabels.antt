@@ -1,30 +1,11 @@
 -- A write of MANAGEMENT_AGENT that is under way at an initiator: the bus knows it under its label, and where its operation is the one under way it is that one's write.
-use Rattle.std.proofs.Common.{arith, ◌≡◌, refl, sym, ◌∙◌, ap, subst, ℕ, suc, ◌+◌, ◌≤◌, ◌==◌, nat_lt, not, Bool, true, false, List, [], ◌∷◌, Option, Some}
-use Rattle.bus_transactions.specs.Rows.{awaits, shape, shape_of}
-use Rattle.bus_transactions.specs.Wire.{transaction}
+use Rattle.sbp_world.proofs.Words.Std.{arith, ◌≡◌, refl, sym, ◌∙◌, ap, subst, ℕ, suc, ◌+◌, ◌≤◌, ◌==◌, nat_lt, not, Bool, true, false, List, [], ◌∷◌, Option, Some}
+use Rattle.sbp_world.proofs.Words.Wire.{awaits, shape, shape_of, transaction, not_begun, under_way, ReplyKind, Layer, seeing_step, state_for, empty_outbox, Moment, asked, said, Kind, Sending, Transaction, begun_by, between, part_of, Held, Terms, kind_in, terms, waits, Action, Event, Note, Outgoing, Side}
+use Rattle.sbp_world.proofs.Words.Initiator.{Purpose, InitiatorState, Turn, new_state, see_step, wanted_body}
+use Rattle.sbp_world.proofs.Words.World.{behind}
 use Rattle.bus_transactions.proofs.Facts.{asked_begun, request_asked}
-use Rattle.label_table.specs.History.{not_begun, under_way}
-use Rattle.label_table.specs.declared.reply.ReplyKind.{ReplyKind}
-use Rattle.label_table.specs.Layer.{Layer, seeing_step}
-use Rattle.label_table.specs.Peers.{state_for}
-use Rattle.sbp_journal.specs.Outgoings.{empty_outbox}
-use Rattle.sbp_journal.specs.Run.{Moment, asked, said}
-use Rattle.sbp_journal.specs.Transactions.{Kind, Sending, Transaction, begun_by, between, part_of}
-use Rattle.sbp_journal.specs.Wire.{Held, Terms, kind_in, terms, waits}
-use Rattle.sbp_journal.specs.declared.event.Action.{Action}
-use Rattle.sbp_journal.specs.declared.event.Event.{Event}
-use Rattle.sbp_journal.specs.declared.note.Note.{Note}
 use Rattle.sbp_journal.specs.declared.note.Note.TheVariants as notes
-use Rattle.sbp_journal.specs.declared.outbox.Outgoing.{Outgoing}
-use Rattle.sbp_journal.specs.declared.side.Side.{Side}
-use Rattle.sbp_initiator.specs.declared.purpose.Purpose.{Purpose}
 use Rattle.sbp_initiator.specs.declared.purpose.Purpose.TheVariants as purposes
-use Rattle.sbp_initiator.specs.declared.state.InitiatorState.{InitiatorState}
-use Rattle.sbp_initiator.specs.Effects.{Turn}
-use Rattle.sbp_initiator.specs.Initiators.{new_state}
-use Rattle.sbp_initiator.specs.Seeing.{see_step}
-use Rattle.sbp_initiator.specs.States.{wanted_body}
-use Rattle.sbp_world.specs.Hosts.Calls.{behind}
 use Rattle.sbp_world.proofs.Hosts.ActLeft.{ActLeft, HasAsked}
 use Rattle.sbp_world.proofs.Hosts.Aimed.{IsAimed}
 use Rattle.sbp_world.proofs.Hosts.Asked.{IsRequest, number_in}

@@ -1,43 +1,16 @@
 -- How an operation of management ends at an initiator whose session is not stuck: by a response of conflict_error to its own request, or by a status block for its ORB.
 -- Else it goes on, or its session is stuck.
-use Rattle.std.proofs.Common.{arith, ◌≡◌, ◌∙◌, ◌⊎◌, inl, inr, refl, sym, ap, subst, ℕ, ◌==◌, Bool, true, false, cond, List, [], length, Option, Some, None, Result, Ok, Err}
-use Rattle.std.proofs.lemmas.Bool.Decides.{nat_tests}
-use Rattle.std.proofs.lemmas.Option.{same_Some}
-use Rattle.async_packet.specs.Packet.{Packet, header_in, lock, lock_response, read_block, read_block_response, read_quadlet, read_quadlet_response, write_block, write_quadlet, write_response}
-use Rattle.config_rom.specs.declared.fault.RomFault.{RomFault}
-use Rattle.config_rom.specs.declared.unit.SbpUnit.{SbpUnit}
-use Rattle.config_rom.specs.Reading.{Tree, reading}
-use Rattle.config_rom.specs.Unit.{sbp_unit_of}
-use Rattle.initiator_base.specs.Fifos.{is_dead_kind}
-use Rattle.initiator_base.specs.Places.{management_at}
-use Rattle.initiator_base.specs.Quads.{with_quad}
+use Rattle.sbp_world.proofs.Words.Std.{arith, ◌≡◌, ◌∙◌, ◌⊎◌, inl, inr, refl, sym, ap, subst, ℕ, ◌==◌, Bool, true, false, cond, List, [], length, Option, Some, None, Result, Ok, Err, nat_tests, same_Some}
+use Rattle.sbp_world.proofs.Words.Wire.{Packet, header_in, lock, lock_response, read_block, read_block_response, read_quadlet, read_quadlet_response, write_block, write_quadlet, write_response, Asked, Layer, answering_step, asking_step, OutboxState, Operation, OpWord}
+use Rattle.sbp_world.proofs.Words.Target.{RomFault, SbpUnit, Tree, reading, sbp_unit_of}
+use Rattle.sbp_world.proofs.Words.Initiator.{is_dead_kind, management_at, with_quad, StatusKind, ListState, drop_lists, write_lists, TicketParts, Ending, Purpose, Running, InitiatorState, Turn, ask_quad, asked_quad, conflict_for, conflict_step, drop_list_step, drop_where, dropped_as, end_own_for, end_own_step, end_step, ended_for, ended_step, fail_step, fault_number, finish_rom, good_end, good_event, good_word, is_address, is_conflict, known_where, managed_step, moved, moves_session, next_quad, pointed_step, quad_got, response_of, state_told, stick_step, then_step, with_answered, with_dead, with_rom, with_unit, called, read_as, respond_step, responded_as, serve_step, taken_as, taken_by, written_as, ends_list, counts_for, is_list, Event, bad, conflict, entered, failed, from_stuck, goes, good, pointed, pointing, reset, sent, is_stuck_seat, Origin, Seat}
+use Rattle.sbp_world.proofs.Words.Laws.{is_management}
 use Rattle.sbp_initiator.proofs.Histories.Effects.{Fits, IsFor}
 use Rattle.sbp_initiator.proofs.Histories.Purposes.{IfFor}
-use Rattle.label_table.specs.declared.judgement.Asked.{Asked}
-use Rattle.label_table.specs.Layer.{Layer, answering_step, asking_step}
-use Rattle.orb_layout.specs.declared.status.StatusKind.{StatusKind}
-use Rattle.orb_list.specs.Lists.{ListState, drop_lists, write_lists}
-use Rattle.orb_list.specs.Tickets.{TicketParts}
-use Rattle.sbp_initiator.specs.declared.purpose.Ending.{Ending}
 use Rattle.sbp_initiator.specs.declared.purpose.Ending.TheVariants as endings
-use Rattle.sbp_initiator.specs.declared.purpose.Purpose.{Purpose}
 use Rattle.sbp_initiator.specs.declared.purpose.Purpose.TheVariants as purposes
-use Rattle.sbp_initiator.specs.declared.purpose.Running.{Running}
-use Rattle.sbp_initiator.specs.declared.state.InitiatorState.{InitiatorState}
-use Rattle.sbp_initiator.specs.Effects.{Turn, ask_quad, asked_quad, conflict_for, conflict_step, drop_list_step, drop_where, dropped_as, end_own_for, end_own_step, end_step, ended_for, ended_step, fail_step, fault_number, finish_rom, good_end, good_event, good_word, is_address, is_conflict, known_where, managed_step, moved, moves_session, next_quad, pointed_step, quad_got, response_of, state_told, stick_step, then_step, with_answered, with_dead, with_rom, with_unit}
-use Rattle.sbp_initiator.specs.Receiving.{called, read_as, respond_step, responded_as, serve_step, taken_as, taken_by, written_as}
-use Rattle.sbp_initiator.specs.Refusals.{ends_list}
-use Rattle.sbp_initiator.specs.States.{counts_for, is_list}
-use Rattle.sbp_journal.specs.Outgoings.{OutboxState}
-use Rattle.sbp_journal.specs.declared.operation.Operation.{Operation}
 use Rattle.sbp_journal.specs.declared.operation.Operation.TheVariants as operations
-use Rattle.sbp_journal.specs.declared.operation.OpWord.{OpWord}
 use Rattle.sbp_journal.specs.declared.operation.OpWord.TheVariants as words
-use Rattle.sbp_laws.specs.Hosts.{is_management}
-use Rattle.sbp_session.specs.Moves.{Event, bad, conflict, entered, failed, from_stuck, goes, good, pointed, pointing, reset, sent}
-use Rattle.sbp_session.specs.Seats.{is_stuck_seat}
-use Rattle.sbp_session.specs.declared.seat.Origin.{Origin}
-use Rattle.sbp_session.specs.declared.seat.Seat.{Seat}
 use Rattle.sbp_session.specs.declared.seat.Seat.TheVariants as seats
 use Rattle.sbp_world.proofs.Lists.ManageTerms.{none_is}
 use Rattle.sbp_world.proofs.Lists.LiveMoves.{drop_operation}

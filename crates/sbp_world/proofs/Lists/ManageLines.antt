@@ -1,33 +1,15 @@
 -- What an initiator writes is as the management of the target takes it, where each write of the address of a management ORB is sent in the line of such an operation.
-use Rattle.std.proofs.Common.{arith, ◌≡◌, ◌∙◌, refl, sym, ap, ℕ, ◌+◌, ◌*◌, ◌%◌, ◌^◌, ◌≤◌, ◌<◌, Bool, true, List, [], ◌∷◌, ◌++◌, map, length, Option, Some, None}
-use Rattle.async_packet.specs.Fields.{rcode_of}
+use Rattle.sbp_world.proofs.Words.Std.{arith, ◌≡◌, ◌∙◌, refl, sym, ap, ℕ, ◌+◌, ◌*◌, ◌%◌, ◌^◌, ◌≤◌, ◌<◌, Bool, true, List, [], ◌∷◌, ◌++◌, map, length, Option, Some, None, big_bytes}
+use Rattle.sbp_world.proofs.Words.Wire.{rcode_of, Access, Moment, asked, said, Sending, Owed, terms, Action}
+use Rattle.sbp_world.proofs.Words.Target.{Disk, Told}
+use Rattle.sbp_world.proofs.Words.Initiator.{start_of, offset_at, new_state}
+use Rattle.sbp_world.proofs.Words.Laws.{host_at, operation_of, access_in_bytes, EachMoment, event_of}
+use Rattle.sbp_world.proofs.Words.World.{history_of, Run, after, beginning, MayAll, after_all, begun, IsRun, more_deliveries, managed_write, manages, IsAsking, IsAtAgent, IsCalm, OpenBefore, OpenBetween}
 use Rattle.bus_memory.specs.declared.window.Window.TheVariants as windows
-use Rattle.bus_memory.specs.Windows.{start as start_of}
-use Rattle.byteorder.specs.Endian.{big_bytes}
-use Rattle.orb_layout.specs.Pointers.{offset_at}
-use Rattle.rbc_disk.specs.Disk.{Disk}
-use Rattle.rbc_disk.specs.Runs.{Told}
-use Rattle.sbp_initiator.specs.Initiators.{new_state}
-use Rattle.sbp_journal.specs.Addresses.{Access}
-use Rattle.sbp_journal.specs.Run.{Moment, asked, said}
-use Rattle.sbp_journal.specs.Transactions.{Sending}
-use Rattle.sbp_journal.specs.Wire.{Owed, terms}
-use Rattle.sbp_journal.specs.declared.event.Action.{Action}
 use Rattle.sbp_journal.specs.declared.event.Event.TheVariants as events
 use Rattle.sbp_journal.specs.declared.note.Note.TheVariants as notes
-use Rattle.sbp_laws.specs.Hosts.{host_at, operation_of}
-use Rattle.sbp_laws.specs.Packets.{access_in_bytes}
-use Rattle.sbp_laws.specs.Turns.{EachMoment, event_of}
-use Rattle.sbp_world.specs.Histories.{history_of}
-use Rattle.sbp_world.specs.Runs.{Run, after, beginning}
-use Rattle.sbp_world.specs.Settling.{MayAll, after_all}
-use Rattle.sbp_world.specs.Worlds.{begun}
-use Rattle.sbp_world.specs.Hosts.Runs.{IsRun, more_deliveries}
 use Rattle.sbp_world.proofs.Hosts.Carried.{between_runs, of_runs}
 use Rattle.sbp_world.proofs.Hosts.Hosted.{first_cored}
-use Rattle.sbp_world.specs.Pointers.Moments.{managed_write, manages}
-use Rattle.sbp_world.specs.Lists.Managing.{IsAsking, IsAtAgent}
-use Rattle.sbp_world.specs.Lists.Needs.{IsCalm, OpenBefore, OpenBetween}
 use Rattle.sbp_world.proofs.Lists.ManageGot.{writing_in}
 use Rattle.sbp_world.proofs.Lists.ManageKnown.{RestGot, RestSent}
 use Rattle.sbp_world.proofs.Lists.ManageLaws.{LeftAt, RestLaw}

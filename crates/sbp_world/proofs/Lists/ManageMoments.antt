@@ -1,35 +1,15 @@
 -- What is known of each moment of a run for the management of an initiator, and that a moment by which nothing is sent or got leaves what is in hand.
-use Rattle.std.proofs.Common.{◌≡◌, ◌∙◌, refl, sym, ap, ℕ, suc, ◌%◌, ◌≤◌, ◌<◌, nat_eq, Bool, true, false, List, ◌∷◌, Option, Some, None, Ok}
-use Rattle.async_packet.specs.declared.packet.Header.{Header}
-use Rattle.async_packet.specs.Fields.{rcode_of}
-use Rattle.async_packet.specs.Packet.{write_block}
-use Rattle.async_packet.specs.Reading.{reading}
+use Rattle.sbp_world.proofs.Words.Std.{◌≡◌, ◌∙◌, refl, sym, ap, ℕ, suc, ◌%◌, ◌≤◌, ◌<◌, nat_eq, Bool, true, false, List, ◌∷◌, Option, Some, None, Ok}
+use Rattle.sbp_world.proofs.Words.Wire.{Header, rcode_of, write_block, reading, transaction, Moment, asked, said, Kind, Sending, Transaction, begun_by, part_of, request, writing, terms, waits, Action, Event, Note}
+use Rattle.sbp_world.proofs.Words.Target.{Operation, Disk}
+use Rattle.sbp_world.proofs.Words.Initiator.{start_of, fifo_at, StatusBlock, status_in}
+use Rattle.sbp_world.proofs.Words.Laws.{host_at, operation_of, access_in, answered_at, packet_in, is_nothing, target_at, EachMoment, event_of}
+use Rattle.sbp_world.proofs.Words.World.{manages, is_open, managed_for, IsAsking, IsFree, IsHandling, IsTelling}
 use Rattle.bus_memory.specs.declared.window.Window.TheVariants as windows
-use Rattle.bus_memory.specs.Windows.{start as start_of}
-use Rattle.bus_transactions.specs.Wire.{transaction}
-use Rattle.initiator_base.specs.Fifos.{fifo_at}
-use Rattle.mgmt_agent.specs.declared.operation.Operation.{Operation}
-use Rattle.orb_layout.specs.declared.status.StatusBlock.{StatusBlock}
 use Rattle.orb_layout.specs.declared.status.StatusKind.TheVariants as kinds
-use Rattle.rbc_disk.specs.Disk.{Disk}
-use Rattle.sbp_initiator.specs.States.{status_in}
-use Rattle.sbp_journal.specs.Run.{Moment, asked, said}
-use Rattle.sbp_journal.specs.Transactions.{Kind, Sending, Transaction, begun_by, part_of, request, writing}
-use Rattle.sbp_journal.specs.Wire.{terms, waits}
-use Rattle.sbp_journal.specs.declared.event.Action.{Action}
-use Rattle.sbp_journal.specs.declared.event.Event.{Event}
 use Rattle.sbp_journal.specs.declared.event.Event.TheVariants as events
-use Rattle.sbp_journal.specs.declared.note.Note.{Note}
 use Rattle.sbp_journal.specs.declared.note.Note.TheVariants as notes
-use Rattle.sbp_laws.specs.Hosts.{host_at, operation_of}
-use Rattle.sbp_laws.specs.Packets.{access_in, answered_at, packet_in}
-use Rattle.sbp_laws.specs.Targets.{is_nothing, target_at}
-use Rattle.sbp_laws.specs.Turns.{EachMoment, event_of}
 use Rattle.sbp_world.proofs.Hosts.PointerNotes.{Fit}
-use Rattle.sbp_world.specs.Pointers.Moments.{manages}
-use Rattle.sbp_world.specs.Sessions.Entering.{is_open}
-use Rattle.sbp_world.specs.Lists.ManagedFor.{managed_for}
-use Rattle.sbp_world.specs.Lists.Managing.{IsAsking, IsFree, IsHandling, IsTelling}
 use Rattle.sbp_world.proofs.Lists.ManageGot.{GotFacts, IsWriting}
 use Rattle.sbp_world.proofs.Lists.ManageNotes.{begins_on, ignored_calm, none_taken, timed_calm}
 use Rattle.sbp_world.proofs.Lists.ManageOffices.{Lingers, Settles, key_lingers, line_settles, none_left, note_lingers, office_at, rested, settles_of, stays, tick_settles}

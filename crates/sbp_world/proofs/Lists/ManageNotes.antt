@@ -1,16 +1,10 @@
 -- Each note that is told of others leaves what is in hand of an initiator's management: one that tells nothing of the wire, a packet that is ignored, a time-out.
-use Rattle.std.proofs.Common.{◌≡◌, ◌∙◌, ◌⊎◌, inl, inr, refl, sym, ap, ℕ, List, ◌∷◌, Some, None}
-use Rattle.mgmt_agent.specs.declared.operation.Operation.{Operation}
-use Rattle.rbc_disk.specs.Disk.{Disk}
-use Rattle.sbp_journal.specs.Run.{Moment, said}
-use Rattle.sbp_journal.specs.Transactions.{Sending}
-use Rattle.sbp_journal.specs.Wire.{Owed, terms}
-use Rattle.sbp_journal.specs.declared.cause.Cause.{Cause}
-use Rattle.sbp_journal.specs.declared.note.Note.{Note}
+use Rattle.sbp_world.proofs.Words.Std.{◌≡◌, ◌∙◌, ◌⊎◌, inl, inr, refl, sym, ap, ℕ, List, ◌∷◌, Some, None}
+use Rattle.sbp_world.proofs.Words.Wire.{Moment, said, Sending, Owed, terms, Cause, Note}
+use Rattle.sbp_world.proofs.Words.Target.{Operation, Disk}
+use Rattle.sbp_world.proofs.Words.Laws.{is_nothing}
+use Rattle.sbp_world.proofs.Words.World.{managed_for, IsBeginning, IsHandling, IsTaking, asks, failed}
 use Rattle.sbp_journal.specs.declared.note.Note.TheVariants as notes
-use Rattle.sbp_laws.specs.Targets.{is_nothing}
-use Rattle.sbp_world.specs.Lists.ManagedFor.{managed_for}
-use Rattle.sbp_world.specs.Lists.Managing.{IsBeginning, IsHandling, IsTaking, asks, failed}
 use Rattle.sbp_world.proofs.Lists.ManageOffices.{Lingers, fails, ignored_settles, lasts, office_at, timed_by}
 use Rattle.sbp_world.proofs.Lists.ManageStays.{Calms, Had, replies_handling, rests_accepted, rests_calm, rests_handling}
 use Rattle.sbp_world.proofs.Lists.ManageTerms.{HasCause, ignored_owes, ignored_rests, none_is, timed_owes, timed_rests}

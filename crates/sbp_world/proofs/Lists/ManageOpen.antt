@@ -1,25 +1,12 @@
 -- In every run one management operation of an initiator is in hand at a time, where each status block of a management ORB that an initiator gets in an open FIFO is one that the target tells: that
 -- is all that is left to know of a moment.
-use Rattle.std.proofs.Common.{◌≡◌, ◌∙◌, sym, ap, subst, ℕ, ◌≤◌, ◌<◌, List, [], ◌∷◌, ◌++◌, map, length, Option, Some, None}
-use Rattle.async_packet.specs.Fields.{rcode_of}
-use Rattle.bus_transactions.specs.Answers.{AreAnswered, IsOwed, IsSentFor}
-use Rattle.rbc_disk.specs.Disk.{Disk}
-use Rattle.rbc_disk.specs.Runs.{Told}
-use Rattle.sbp_journal.specs.Run.{Moment, asked, said}
-use Rattle.sbp_journal.specs.Transactions.{Kind, Sending, request, response, writing}
-use Rattle.sbp_journal.specs.Wire.{Owed, terms}
+use Rattle.sbp_world.proofs.Words.Std.{◌≡◌, ◌∙◌, sym, ap, subst, ℕ, ◌≤◌, ◌<◌, List, [], ◌∷◌, ◌++◌, map, length, Option, Some, None}
+use Rattle.sbp_world.proofs.Words.Wire.{rcode_of, AreAnswered, IsOwed, IsSentFor, Moment, asked, said, Kind, Sending, request, response, writing, Owed, terms}
+use Rattle.sbp_world.proofs.Words.Target.{Disk, Told}
+use Rattle.sbp_world.proofs.Words.Laws.{access_in, access_in_bytes, packet_in, EachMoment}
+use Rattle.sbp_world.proofs.Words.World.{history_of, Run, after, beginning, MayAll, after_all, begun, IsRun, more_deliveries, MayAsk, MayStand, IsAtAgent, IsCalm, OpenBefore, OpenBetween}
 use Rattle.sbp_journal.specs.declared.note.Note.TheVariants as notes
-use Rattle.sbp_laws.specs.Packets.{access_in, access_in_bytes, packet_in}
-use Rattle.sbp_laws.specs.Turns.{EachMoment}
-use Rattle.sbp_world.specs.Histories.{history_of}
-use Rattle.sbp_world.specs.Runs.{Run, after, beginning}
-use Rattle.sbp_world.specs.Settling.{MayAll, after_all}
-use Rattle.sbp_world.specs.Worlds.{begun}
-use Rattle.sbp_world.specs.Hosts.Runs.{IsRun, more_deliveries}
-use Rattle.sbp_world.specs.Pointers.Moments.{MayAsk, MayStand}
 use Rattle.sbp_world.proofs.Pointers.Proved.{moments_law, writes_law}
-use Rattle.sbp_world.specs.Lists.Managing.{IsAtAgent}
-use Rattle.sbp_world.specs.Lists.Needs.{IsCalm, OpenBefore, OpenBetween}
 use Rattle.sbp_world.proofs.Lists.ManageAnswers.{serves_write}
 use Rattle.sbp_world.proofs.Lists.ManageAsked.{asking_line}
 use Rattle.sbp_world.proofs.Lists.ManageCodes.{answers_write}

@@ -1,41 +1,17 @@
 -- What is in hand of an initiator's management stays as it hears a packet, lets a transaction time out, and sees a generation.
-use Rattle.std.proofs.Common.{arith, ◌≡◌, ◌∙◌, ◌⊎◌, inl, inr, refl, sym, ap, subst, ℕ, suc, ◌%◌, ◌≤◌, ◌<◌, nat_eq, Bool, true, false, List, ◌∷◌, Option, Some, None, Ok}
-use Rattle.std.proofs.lemmas.Bool.Decides.{nat_tests}
-use Rattle.async_packet.specs.Fields.{rcode_of}
-use Rattle.async_packet.specs.Labels.{LabelParts}
-use Rattle.async_packet.specs.Packet.{Packet, header_in, write_block}
-use Rattle.async_packet.specs.Reading.{reading}
+use Rattle.sbp_world.proofs.Words.Std.{arith, ◌≡◌, ◌∙◌, ◌⊎◌, inl, inr, refl, sym, ap, subst, ℕ, suc, ◌%◌, ◌≤◌, ◌<◌, nat_eq, Bool, true, false, List, ◌∷◌, Option, Some, None, Ok, nat_tests}
+use Rattle.sbp_world.proofs.Words.Wire.{rcode_of, LabelParts, Packet, header_in, write_block, reading, awaits, kind_as, shape_of, transaction, ReplyKind, Layer, judging_step, of_response, purpose_for, state_for, judged_note, empty_outbox, Moment, said, Sending, Transaction, Held, terms, waits, Judged, Note}
+use Rattle.sbp_world.proofs.Words.Target.{Disk}
+use Rattle.sbp_world.proofs.Words.Initiator.{start_of, Purpose, Running, InitiatorState, Turn, is_conflict, receive_step, ending_of, is_orb_of, is_stuck_seat}
+use Rattle.sbp_world.proofs.Words.Laws.{Underway, host_at, is_management}
+use Rattle.sbp_world.proofs.Words.World.{behind, Core, Work, host_core, own_core, work_in, work_of, IsBusy, IsFree, IsRest, IsServed, IsTelling}
 use Rattle.bus_memory.specs.declared.window.Window.TheVariants as windows
-use Rattle.bus_memory.specs.Windows.{start as start_of}
-use Rattle.bus_transactions.specs.Rows.{awaits, kind_as, shape_of}
-use Rattle.bus_transactions.specs.Wire.{transaction}
-use Rattle.label_table.specs.declared.reply.ReplyKind.{ReplyKind}
-use Rattle.label_table.specs.Layer.{Layer, judging_step, of_response}
-use Rattle.label_table.specs.Peers.{purpose_for, state_for}
-use Rattle.rbc_disk.specs.Disk.{Disk}
-use Rattle.sbp_bus.specs.Packets.{judged_note}
 use Rattle.sbp_initiator.specs.declared.purpose.Ending.TheVariants as endings
-use Rattle.sbp_initiator.specs.declared.purpose.Purpose.{Purpose}
 use Rattle.sbp_initiator.specs.declared.purpose.Purpose.TheVariants as purposes
-use Rattle.sbp_initiator.specs.declared.purpose.Running.{Running}
-use Rattle.sbp_initiator.specs.declared.state.InitiatorState.{InitiatorState}
-use Rattle.sbp_initiator.specs.Effects.{Turn, is_conflict}
-use Rattle.sbp_initiator.specs.Receiving.{receive_step}
-use Rattle.sbp_initiator.specs.States.{ending_of, is_orb_of}
-use Rattle.sbp_journal.specs.Outgoings.{empty_outbox}
-use Rattle.sbp_journal.specs.Run.{Moment, said}
-use Rattle.sbp_journal.specs.Transactions.{Sending, Transaction}
-use Rattle.sbp_journal.specs.Wire.{Held, terms, waits}
-use Rattle.sbp_journal.specs.declared.cause.Judged.{Judged}
 use Rattle.sbp_journal.specs.declared.cause.Judged.TheVariants as judgements
-use Rattle.sbp_journal.specs.declared.note.Note.{Note}
 use Rattle.sbp_journal.specs.declared.note.Note.TheVariants as notes
-use Rattle.sbp_laws.specs.Hosts.{Underway, host_at, is_management}
-use Rattle.sbp_session.specs.Seats.{is_stuck_seat}
 use Rattle.sbp_world.proofs.Wire.Agrees.{got_agrees, ignored_agrees}
 use Rattle.sbp_world.proofs.Wire.Deliver.{judging_stays}
-use Rattle.sbp_world.specs.Hosts.Calls.{behind}
-use Rattle.sbp_world.specs.Hosts.Core.{Core, Work, host_core, own_core, work_in, work_of}
 use Rattle.sbp_world.proofs.Hosts.Aimed.{IsAimed}
 use Rattle.sbp_world.proofs.Hosts.Held.{got_waits, ignored_quiet}
 use Rattle.sbp_world.proofs.Hosts.Hosted.{Cored, hears_fit}
@@ -44,7 +20,6 @@ use Rattle.sbp_world.proofs.Hosts.Lives.{At, judge_at}
 use Rattle.sbp_world.proofs.Hosts.Pointed.{judged_called}
 use Rattle.sbp_world.proofs.Hosts.Pointing.{called_of, under_way_now}
 use Rattle.sbp_world.proofs.Hosts.Shown.{IsHeard, IsShown}
-use Rattle.sbp_world.specs.Lists.Managing.{IsBusy, IsFree, IsRest, IsServed, IsTelling}
 use Rattle.sbp_world.proofs.Lists.ManageFinds.{block_is_got, closed_over, closes_at, read_request, refused_rcode}
 use Rattle.sbp_world.proofs.Lists.ManageFirsts.{Goes, goes_then, note_first, told_first}
 use Rattle.sbp_world.proofs.Lists.ManageGot.{gets_other, got_busy, got_free}

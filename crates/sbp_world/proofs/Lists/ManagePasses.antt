@@ -1,51 +1,20 @@
 -- In every run the target answers a write of MANAGEMENT_AGENT with conflict_error as it finds an operation under way alone, and nothing is owed as a second passes: after each line, and behind each
 -- delivery of a line that may follow.
-use Rattle.std.proofs.Common.{arith, ◌≡◌, ◌∙◌, refl, sym, ap, subst, ℕ, zero, suc, ◌+◌, ◌<◌, ◌≤◌, ◌^◌, ◌||◌, nat_lt, Bool, true, false, cond, List, [], ◌∷◌, ◌++◌, length, map, Option, Some, None, not}
-use Rattle.std.specs.Prelude.{slice_set}
-use Rattle.bus_transactions.specs.Wire.{as_sending}
-use Rattle.sbp_world.specs.Hosts.Handing.{AreOthers, history}
-use Rattle.sbp_world.specs.Hosts.Runs.{IsRun, more_deliveries}
+use Rattle.sbp_world.proofs.Words.Std.{arith, ◌≡◌, ◌∙◌, refl, sym, ap, subst, ℕ, zero, suc, ◌+◌, ◌<◌, ◌≤◌, ◌^◌, ◌||◌, nat_lt, Bool, true, false, cond, List, [], ◌∷◌, ◌++◌, length, map, Option, Some, None, not, slice_set}
+use Rattle.sbp_world.proofs.Words.Wire.{as_sending, Sent, found_sent, is_flying, deliver_step, end_note, judged_note, no_node, no_packet, OutboxState, empty_outbox, Moment, asked, said, terms, Judged, Event, Side}
+use Rattle.sbp_world.proofs.Words.Target.{Operation, Disk, Told, received, Whole}
+use Rattle.sbp_world.proofs.Words.Initiator.{receive_step}
+use Rattle.sbp_world.proofs.Words.Laws.{target_at}
+use Rattle.sbp_world.proofs.Words.World.{AreOthers, history, IsRun, more_deliveries, Arrival, MayAt, MayReceive, MayTell, MayTold, arrived, at_target, delivered, delivered_by, initiator_received, initiators_received, marked, received_by, received_step, target_received, whole_of, with_initiators, handed_out, history_of, moments_behind, MayHappen, happens, keyed, no_unit, ready_logins, reset_line, MayIf, delivered_if, inject_line, injected, injected_to, is_in_flight, lose_line, lost, may_repeat, refused, AreEntries, Entry, Run, after, beginning, posted, MayAll, MayNext, after_all, delivered_at, delivered_next, is_settled, lowest, told_all, Scene, WorldState, begun, initiator_at, with_note, with_target, without_notes, AreLines, IsLine, DeliversMore}
 use Rattle.sbp_world.proofs.Hosts.Hands.{target_tells}
 use Rattle.sbp_world.proofs.Hosts.Layered.{receive_left}
 use Rattle.mgmt_agent.specs.Machine as manager
-use Rattle.mgmt_agent.specs.declared.operation.Operation.{Operation}
-use Rattle.packet_store.specs.declared.sent.Sent.{Sent}
-use Rattle.packet_store.specs.Kept.{found_sent, is_flying}
-use Rattle.packet_store.specs.Stored.{deliver_step}
-use Rattle.rbc_disk.specs.Disk.{Disk}
-use Rattle.rbc_disk.specs.Runs.{Told}
-use Rattle.sbp_bus.specs.Packets.{end_note, judged_note, no_node, no_packet}
-use Rattle.sbp_initiator.specs.Receiving.{receive_step}
-use Rattle.sbp_journal.specs.Outgoings.{OutboxState, empty_outbox}
-use Rattle.sbp_journal.specs.Run.{Moment, asked, said}
-use Rattle.sbp_journal.specs.Wire.{terms}
-use Rattle.sbp_journal.specs.declared.cause.Judged.{Judged}
-use Rattle.sbp_journal.specs.declared.event.Event.{Event}
 use Rattle.sbp_journal.specs.declared.event.Event.TheVariants as events
 use Rattle.sbp_journal.specs.declared.note.Note.TheVariants as notes
-use Rattle.sbp_journal.specs.declared.side.Side.{Side}
 use Rattle.sbp_journal.specs.declared.side.Side.TheVariants as sides
-use Rattle.sbp_laws.specs.Targets.{target_at}
-use Rattle.sbp_target.specs.Receiving.{received}
-use Rattle.sbp_target.specs.Replies.{Whole}
-use Rattle.sbp_world.specs.declared.parts.delivering.Arrival.{Arrival}
-use Rattle.sbp_world.specs.Delivering.{MayAt, MayReceive, MayTell, MayTold, arrived, at_target, delivered, delivered_by, initiator_received, initiators_received, marked, received_by, received_step, target_received, whole_of, with_initiators}
-use Rattle.sbp_world.specs.Handing.{handed_out}
-use Rattle.sbp_world.specs.Histories.{history_of, moments_behind}
-use Rattle.sbp_world.specs.Lines.{MayHappen, happens, keyed, no_unit}
-use Rattle.sbp_world.specs.Making.{ready_logins}
-use Rattle.sbp_world.specs.Nodes.{reset_line}
-use Rattle.sbp_world.specs.Packets.{MayIf, delivered_if, inject_line, injected, injected_to, is_in_flight, lose_line, lost, may_repeat, refused}
-use Rattle.sbp_world.specs.Runs.{AreEntries, Entry, Run, after, beginning}
-use Rattle.sbp_world.specs.Sending.{posted}
-use Rattle.sbp_world.specs.Settling.{MayAll, MayNext, after_all, delivered_at, delivered_next, is_settled, lowest}
 use Rattle.sbp_world.specs.Settling as settling
-use Rattle.sbp_world.specs.Telling.{told_all}
-use Rattle.sbp_world.specs.Worlds.{Scene, WorldState, begun, initiator_at, with_note, with_target, without_notes}
-use Rattle.sbp_world.specs.Wire.Lines.{AreLines, IsLine}
 use Rattle.sbp_world.proofs.Wire.Comes.{own_inside, own_outside, received_is, to_own, to_zero}
 use Rattle.sbp_world.proofs.Wire.ToldBytes.{AreTold, happened_fits}
-use Rattle.sbp_world.specs.Agents.Management.Terms.{DeliversMore}
 use Rattle.sbp_world.proofs.Agents.Management.Holding.{Holding, marked_hist, was_sent}
 use Rattle.sbp_world.proofs.Agents.Management.Lines.{all_heard, opens}
 use Rattle.sbp_world.proofs.Agents.Management.Outs.{told_terms}

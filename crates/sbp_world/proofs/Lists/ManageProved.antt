@@ -1,6 +1,6 @@
 -- One management operation of an initiator that injected no packets is in hand at a time, in every run before whose place lists were open as they should be: each status block of
 -- the management that it gets in an open FIFO is one that the target tells, for the target writes such a block to its FIFOs for its operation alone.
-use Rattle.sbp_world.specs.Lists.Managing.{ManagingLaw}
+use Rattle.sbp_world.proofs.Words.World.{ManagingLaw}
 use Rattle.sbp_world.proofs.Lists.FifoProved.{fifo_writes_law}
 use Rattle.sbp_world.proofs.Lists.ManageLaws.{hands_law}
 use Rattle.sbp_world.proofs.Lists.ManageLines.{rest_law}

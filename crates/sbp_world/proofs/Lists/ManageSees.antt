@@ -1,19 +1,13 @@
 -- What is in hand of an initiator's management stays as it sees a generation.
-use Rattle.std.proofs.Common.{arith, ◌≡◌, ◌∙◌, refl, sym, ap, subst, ℕ, suc, ◌≤◌, ◌==◌, nat_eq, nat_lt, not, Bool, true, false, cond, List, ◌∷◌, None}
-use Rattle.std.proofs.lemmas.Bool.Decides.{nat_tests}
+use Rattle.sbp_world.proofs.Words.Std.{arith, ◌≡◌, ◌∙◌, refl, sym, ap, subst, ℕ, suc, ◌≤◌, ◌==◌, nat_eq, nat_lt, not, Bool, true, false, cond, List, ◌∷◌, None, nat_tests}
+use Rattle.sbp_world.proofs.Words.Wire.{Layer, seen_in_generation, seeing_step, empty_outbox, Moment, said, Terms, terms}
+use Rattle.sbp_world.proofs.Words.Target.{Disk}
+use Rattle.sbp_world.proofs.Words.Initiator.{Purpose, InitiatorState, Turn, interrupted, resets_told, see_step, seen_as}
+use Rattle.sbp_world.proofs.Words.Laws.{Host, host_at, known_host}
+use Rattle.sbp_world.proofs.Words.World.{behind}
 use Rattle.sbp_initiator.proofs.Histories.Effects.{list_drops}
-use Rattle.label_table.specs.Layer.{Layer, seen_in_generation, seeing_step}
-use Rattle.rbc_disk.specs.Disk.{Disk}
-use Rattle.sbp_initiator.specs.declared.purpose.Purpose.{Purpose}
-use Rattle.sbp_initiator.specs.declared.state.InitiatorState.{InitiatorState}
-use Rattle.sbp_initiator.specs.Effects.{Turn}
-use Rattle.sbp_initiator.specs.Seeing.{interrupted, resets_told, see_step, seen_as}
-use Rattle.sbp_journal.specs.Outgoings.{empty_outbox}
-use Rattle.sbp_journal.specs.Run.{Moment, said}
-use Rattle.sbp_journal.specs.Wire.{Terms, terms}
 use Rattle.sbp_journal.specs.declared.note.Note.TheVariants as notes
-use Rattle.sbp_laws.specs.Hosts.{Host, host_at, known_host, reset_seen}
-use Rattle.sbp_world.specs.Hosts.Calls.{behind}
+use Rattle.sbp_laws.specs.Hosts.{reset_seen}
 use Rattle.sbp_world.proofs.Hosts.Aimed.{IsAimed}
 use Rattle.sbp_world.proofs.Hosts.Cores.{wire_is}
 use Rattle.sbp_world.proofs.Hosts.Layered.{AreTame}

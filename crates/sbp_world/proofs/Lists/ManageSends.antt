@@ -1,12 +1,7 @@
 -- What a packet that is sent, a line that begins and a generation that is seen leave of the terms of the wire.
-use Rattle.std.proofs.Common.{arith, ◌≡◌, ◌∙◌, ◌⊎◌, inl, inr, refl, sym, ap, ℕ, ◌+◌, ◌≤◌, nat_eq, Bool, true, false, cond, Option, Some, None}
-use Rattle.std.proofs.lemmas.Bool.Decides.{nat_tests}
-use Rattle.async_packet.specs.Fields.{rcode_of}
+use Rattle.sbp_world.proofs.Words.Std.{arith, ◌≡◌, ◌∙◌, ◌⊎◌, inl, inr, refl, sym, ap, ℕ, ◌+◌, ◌≤◌, nat_eq, Bool, true, false, cond, Option, Some, None, nat_tests, upd}
+use Rattle.sbp_world.proofs.Words.Wire.{rcode_of, Sending, Transaction, begun_by, is_same, Owed, Terms, asked_in, begins, gives, opened, pays, puts, sends, Event}
 use Rattle.bus_transactions.proofs.PacketParts.{same_is}
-use Rattle.sbp_base.specs.Update.{upd}
-use Rattle.sbp_journal.specs.Transactions.{Sending, Transaction, begun_by, is_same}
-use Rattle.sbp_journal.specs.Wire.{Owed, Terms, asked_in, begins, gives, opened, pays, puts, sends}
-use Rattle.sbp_journal.specs.declared.event.Event.{Event}
 use Rattle.sbp_journal.specs.declared.event.Event.TheVariants as events
 use Rattle.sbp_world.proofs.Lists.ManageTerms.{same_some}
 

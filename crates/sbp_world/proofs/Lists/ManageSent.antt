@@ -1,26 +1,16 @@
 -- A packet is sent: where it is a status block of the target for an operation of an initiator, none waited; and else what is in hand of its management stays.
-use Rattle.std.proofs.Common.{arith, ◌≡◌, ◌∙◌, ◌⊎◌, inl, inr, refl, sym, ap, subst, ℕ, zero, suc, ◌+◌, ◌≤◌, ◌<◌, ◌&&◌, not, nat_eq, Bool, true, false, cond, List, [], ◌∷◌, Option, Some, None}
-use Rattle.std.proofs.lemmas.Bool.Decides.{nat_tests}
-use Rattle.async_packet.specs.Fields.{rcode_of}
-use Rattle.bus_transactions.specs.Packets.{SerialsCount}
-use Rattle.bus_transactions.specs.Wire.{is_stated}
+use Rattle.sbp_world.proofs.Words.Std.{arith, ◌≡◌, ◌∙◌, ◌⊎◌, inl, inr, refl, sym, ap, subst, ℕ, zero, suc, ◌+◌, ◌≤◌, ◌<◌, ◌&&◌, not, nat_eq, Bool, true, false, cond, List, [], ◌∷◌, Option, Some, None, nat_tests}
+use Rattle.sbp_world.proofs.Words.Wire.{rcode_of, SerialsCount, is_stated, Moment, asked, said, Sending, Transaction, asked_by, begun_by, is_same, Owed, Terms, asked_in, terms, Cause}
+use Rattle.sbp_world.proofs.Words.Target.{Operation, Disk}
+use Rattle.sbp_world.proofs.Words.Laws.{access_in, packet_in, is_nothing, is_serial, target_at}
+use Rattle.sbp_world.proofs.Words.World.{is_its_packet, managed_for, operation_if, IsAccepted, IsAsking, IsAtAgent, IsBeginning, IsBusy, IsFree, IsHandling, IsOwnWrite, IsRest, IsServed, IsTaking, IsTelling, asks, failed}
 use Rattle.bus_transactions.proofs.Facts.{asked_is, begun_asked}
 use Rattle.bus_transactions.proofs.PacketParts.{same_is, same_refl}
-use Rattle.mgmt_agent.specs.declared.operation.Operation.{Operation}
 use Rattle.mgmt_agent.specs.declared.operation.Phase.TheVariants as phases
-use Rattle.rbc_disk.specs.Disk.{Disk}
-use Rattle.sbp_journal.specs.Run.{Moment, asked, said}
-use Rattle.sbp_journal.specs.Transactions.{Sending, Transaction, asked_by, begun_by, is_same}
-use Rattle.sbp_journal.specs.Wire.{Owed, Terms, asked_in, terms}
-use Rattle.sbp_journal.specs.declared.cause.Cause.{Cause}
 use Rattle.sbp_journal.specs.declared.cause.Cause.TheVariants as causes
 use Rattle.sbp_journal.specs.declared.note.Note.TheVariants as notes
-use Rattle.sbp_laws.specs.Packets.{access_in, packet_in}
-use Rattle.sbp_laws.specs.Targets.{is_nothing, is_serial, target_at}
 use Rattle.sbp_world.proofs.Hosts.Remaining.{remains}
 use Rattle.sbp_world.proofs.Hosts.SentMoments.{count_now, sent_below}
-use Rattle.sbp_world.specs.Lists.ManagedFor.{is_its_packet, managed_for, operation_if}
-use Rattle.sbp_world.specs.Lists.Managing.{IsAccepted, IsAsking, IsAtAgent, IsBeginning, IsBusy, IsFree, IsHandling, IsOwnWrite, IsRest, IsServed, IsTaking, IsTelling, asks, failed}
 use Rattle.sbp_world.proofs.Lists.ManageOffices.{Sent, office_at, sent_office}
 use Rattle.sbp_world.proofs.Lists.ManageSends.{Sends, by_given, given_behind, sent_given, sent_is, sent_other, sent_terms}
 use Rattle.sbp_world.proofs.Lists.ManageStays.{IsOver}

@@ -1,19 +1,12 @@
 -- What is in hand of an initiator's management stays as another node sees a generation, and as it tells something itself.
-use Rattle.std.proofs.Common.{arith, ◌≡◌, ◌∙◌, refl, sym, ap, subst, ℕ, suc, nat_eq, Bool, true, false, cond, List, [], ◌∷◌, Some, None}
-use Rattle.std.proofs.lemmas.Bool.Decides.{nat_tests}
-use Rattle.mgmt_agent.specs.declared.operation.Operation.{Operation}
-use Rattle.rbc_disk.specs.Disk.{Disk}
-use Rattle.sbp_base.specs.Update.{upd}
-use Rattle.sbp_journal.specs.Run.{Moment, said}
-use Rattle.sbp_journal.specs.Wire.{Terms, terms}
-use Rattle.sbp_journal.specs.declared.note.Note.{Note}
+use Rattle.sbp_world.proofs.Words.Std.{arith, ◌≡◌, ◌∙◌, refl, sym, ap, subst, ℕ, suc, nat_eq, Bool, true, false, cond, List, [], ◌∷◌, Some, None, nat_tests, upd}
+use Rattle.sbp_world.proofs.Words.Wire.{Moment, said, Terms, terms, Note, Side}
+use Rattle.sbp_world.proofs.Words.Target.{Operation, Disk}
+use Rattle.sbp_world.proofs.Words.Laws.{is_nothing, target_at}
+use Rattle.sbp_world.proofs.Words.World.{behind, IsBusy, IsFree, IsHandling}
 use Rattle.sbp_journal.specs.declared.note.Note.TheVariants as notes
-use Rattle.sbp_journal.specs.declared.side.Side.{Side}
 use Rattle.sbp_journal.specs.declared.side.Side.TheVariants as sides
-use Rattle.sbp_laws.specs.Targets.{is_nothing, target_at}
-use Rattle.sbp_world.specs.Hosts.Calls.{behind}
 use Rattle.sbp_world.proofs.Hosts.Layered.{AreTame, is_tame}
-use Rattle.sbp_world.specs.Lists.Managing.{IsBusy, IsFree, IsHandling}
 use Rattle.sbp_world.proofs.Lists.ManageMoments.{Hands, is_quiet, quiet_calm}
 use Rattle.sbp_world.proofs.Lists.ManageNotes.{none_taken}
 use Rattle.sbp_world.proofs.Lists.ManageOffices.{Settles, none_left, office_at, rested, sees_none, sight_settles, stays}

@@ -1,22 +1,11 @@
 -- What the bytes of a request of a transaction layer say that it asks for.
-use Rattle.std.proofs.Common.{arith, ◌≡◌, refl, sym, ◌∙◌, ap, ℕ, ◌<◌, length, Option, Some, None}
-use Rattle.std.proofs.lemmas.Option.{same_Some}
-use Rattle.async_packet.specs.Canon.{IsValid, canon}
-use Rattle.async_packet.specs.Packet.{Packet}
-use Rattle.async_packet.specs.Reading.{reading}
-use Rattle.label_table.specs.declared.judgement.Asked.{Asked}
-use Rattle.label_table.specs.Bodies.{Body, header_to, request_with}
-use Rattle.label_table.specs.Laws.{relabelled}
-use Rattle.label_table.specs.Layer.{Layer, asked_at, asking_in, asking_step, peer_at, peer_place, unlabelled}
-use Rattle.label_table.specs.Peers.{begun_for}
-use Rattle.label_table.specs.Table.{begin_at, begin_step, lowest_from}
+use Rattle.sbp_world.proofs.Words.Std.{arith, ◌≡◌, refl, sym, ◌∙◌, ap, ℕ, ◌<◌, length, Option, Some, None, same_Some}
+use Rattle.sbp_world.proofs.Words.Wire.{IsValid, canon, Packet, reading, Asked, Body, header_to, request_with, relabelled, Layer, asked_at, asking_in, asking_step, peer_at, peer_place, unlabelled, begun_for, begin_at, begin_step, lowest_from, with_label, access_of, IsLayer}
+use Rattle.sbp_world.proofs.Words.Initiator.{Purpose}
+use Rattle.sbp_world.proofs.Words.Laws.{access_in, access_in_bytes}
 use Rattle.label_table.proofs.Calls.{after_kept}
 use Rattle.label_table.proofs.Rewritten.{writes_labels}
-use Rattle.label_table.specs.Requests.{with_label}
-use Rattle.sbp_initiator.specs.declared.purpose.Purpose.{Purpose}
-use Rattle.sbp_journal.specs.Addresses.{access_of}
-use Rattle.sbp_laws.specs.Packets.{access_in, access_in_bytes, spelled_by as read_by}
-use Rattle.bus_transactions.specs.Fitting.{IsLayer}
+use Rattle.sbp_laws.specs.Packets.{spelled_by as read_by}
 use Rattle.sbp_world.proofs.Pointers.Spelled.{read_canon, same_access, below}
 
 module _ (layer : Layer Purpose) (peer : ℕ) (body : Body) (purpose : Purpose) (c : IsLayer layer) (v : IsValid (request_with (header_to layer.node peer 0) body)) where

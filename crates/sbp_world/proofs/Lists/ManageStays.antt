@@ -1,16 +1,10 @@
 -- Where a moment starts no operation of an initiator, and tells nothing new of one, what is in hand of its management stays.
-use Rattle.std.proofs.Common.{arith, ◌≡◌, ◌∙◌, ◌⊎◌, inl, inr, refl, sym, ap, ℕ, suc, ◌<◌, nat_eq, Bool, true, false, List, Option, Some}
-use Rattle.std.proofs.lemmas.Bool.Decides.{nat_tests}
-use Rattle.mgmt_agent.specs.declared.operation.Operation.{Operation}
+use Rattle.sbp_world.proofs.Words.Std.{arith, ◌≡◌, ◌∙◌, ◌⊎◌, inl, inr, refl, sym, ap, ℕ, suc, ◌<◌, nat_eq, Bool, true, false, List, Option, Some, nat_tests}
+use Rattle.sbp_world.proofs.Words.Wire.{Moment, Sending, Transaction, Owed, Terms, terms}
+use Rattle.sbp_world.proofs.Words.Target.{Operation, Disk}
+use Rattle.sbp_world.proofs.Words.Laws.{access_in, packet_in, is_nothing, target_at}
+use Rattle.sbp_world.proofs.Words.World.{managed_for, IsAccepted, IsAsking, IsAtAgent, IsBeginning, IsBusy, IsFree, IsHandling, IsOwnWrite, IsRest, IsServed, IsTaking, IsTelling}
 use Rattle.mgmt_agent.specs.declared.operation.Phase.TheVariants as phases
-use Rattle.rbc_disk.specs.Disk.{Disk}
-use Rattle.sbp_journal.specs.Run.{Moment}
-use Rattle.sbp_journal.specs.Transactions.{Sending, Transaction}
-use Rattle.sbp_journal.specs.Wire.{Owed, Terms, terms}
-use Rattle.sbp_laws.specs.Packets.{access_in, packet_in}
-use Rattle.sbp_laws.specs.Targets.{is_nothing, target_at}
-use Rattle.sbp_world.specs.Lists.ManagedFor.{managed_for}
-use Rattle.sbp_world.specs.Lists.Managing.{IsAccepted, IsAsking, IsAtAgent, IsBeginning, IsBusy, IsFree, IsHandling, IsOwnWrite, IsRest, IsServed, IsTaking, IsTelling}
 use Rattle.sbp_world.proofs.Lists.ManageOffices.{Replies, Settles, none_left, office_at, rested, stays}
 use Rattle.sbp_world.proofs.Lists.ManageTerms.{Rests, none_is}
 

@@ -1,48 +1,17 @@
 -- A status block of a management ORB that an initiator gets in an open FIFO is one that the target tells, where each one that is written to a FIFO of that initiator is the packet of the operation
 -- of the target, which ends with it.
-use Rattle.std.proofs.Common.{arith, ◌≡◌, ◌∙◌, refl, sym, ap, subst, ℕ, zero, suc, ◌-◌, ◌≤◌, ◌<◌, ◌==◌, ◌&&◌, ◌||◌, nat_eq, nat_le, nat_lt, Bool, true, false, cond, List, [], ◌∷◌, ◌++◌, map, length, Option, Some, None, Result, Ok, Err}
-use Rattle.std.proofs.lemmas.Bool.Decides.{nat_tests}
-use Rattle.async_packet.specs.declared.fault.PacketFault.{PacketFault}
-use Rattle.async_packet.specs.declared.packet.Header.{Header}
-use Rattle.async_packet.specs.Packet.{Packet, write_block}
-use Rattle.async_packet.specs.Reading.{reading}
+use Rattle.sbp_world.proofs.Words.Std.{arith, ◌≡◌, ◌∙◌, refl, sym, ap, subst, ℕ, zero, suc, ◌-◌, ◌≤◌, ◌<◌, ◌==◌, ◌&&◌, ◌||◌, nat_eq, nat_le, nat_lt, Bool, true, false, cond, List, [], ◌∷◌, ◌++◌, map, length, Option, Some, None, Result, Ok, Err, nat_tests, upd}
+use Rattle.sbp_world.proofs.Words.Wire.{PacketFault, Header, Packet, write_block, reading, Access, Moment, asked, said, Sending, terms, Event, Note}
+use Rattle.sbp_world.proofs.Words.Target.{Operation, Disk, Told}
+use Rattle.sbp_world.proofs.Words.Initiator.{start_of, fifo_at, is_login_fifo, is_open_login, is_managed_orb, names_place, place_fifo, OrbFault, StatusBlock, StatusKind, offset_at, in_row, kind_of, read_block, src_of, whole_length, status_in}
+use Rattle.sbp_world.proofs.Words.Laws.{access_in, spelled_by, target_at, EachMoment}
+use Rattle.sbp_world.proofs.Words.World.{history_of, Run, after, beginning, MayAll, after_all, begun, IsRun, more_deliveries, is_open, FifoWritesLaw, IsPlaceWrite, PlaceSo, is_its_packet, managed_for, operation_if, IsCalm, OpenBefore, OpenBetween, IsFifo}
 use Rattle.bus_memory.specs.declared.window.Window.TheVariants as windows
-use Rattle.bus_memory.specs.Windows.{start as start_of}
 use Rattle.bus_transactions.proofs.Facts.{Facts}
-use Rattle.initiator_base.specs.Fifos.{fifo_at, is_login_fifo, is_open_login}
-use Rattle.initiator_base.specs.Places.{is_managed_orb, names_place, place_fifo}
 use Rattle.initiator_base.specs.declared.fifos.Fifo.TheVariants as fifos
-use Rattle.mgmt_agent.specs.declared.operation.Operation.{Operation}
 use Rattle.mgmt_agent.specs.declared.operation.Phase.TheVariants as phases
-use Rattle.orb_layout.specs.declared.fault.OrbFault.{OrbFault}
-use Rattle.orb_layout.specs.declared.status.StatusBlock.{StatusBlock}
-use Rattle.orb_layout.specs.declared.status.StatusKind.{StatusKind}
-use Rattle.orb_layout.specs.Pointers.{offset_at}
-use Rattle.orb_layout.specs.StatusBlocks.{in_row, kind_of, read_block, src_of, whole_length}
-use Rattle.rbc_disk.specs.Disk.{Disk}
-use Rattle.rbc_disk.specs.Runs.{Told}
-use Rattle.sbp_base.specs.Update.{upd}
-use Rattle.sbp_initiator.specs.States.{status_in}
-use Rattle.sbp_journal.specs.Addresses.{Access}
-use Rattle.sbp_journal.specs.Run.{Moment, asked, said}
-use Rattle.sbp_journal.specs.Transactions.{Sending}
-use Rattle.sbp_journal.specs.Wire.{terms}
-use Rattle.sbp_journal.specs.declared.event.Event.{Event}
-use Rattle.sbp_journal.specs.declared.note.Note.{Note}
 use Rattle.sbp_journal.specs.declared.note.Note.TheVariants as notes
-use Rattle.sbp_laws.specs.Packets.{access_in, spelled_by}
-use Rattle.sbp_laws.specs.Targets.{target_at}
-use Rattle.sbp_laws.specs.Turns.{EachMoment}
-use Rattle.sbp_world.specs.Histories.{history_of}
-use Rattle.sbp_world.specs.Runs.{Run, after, beginning}
-use Rattle.sbp_world.specs.Settling.{MayAll, after_all}
-use Rattle.sbp_world.specs.Worlds.{begun}
-use Rattle.sbp_world.specs.Hosts.Runs.{IsRun, more_deliveries}
-use Rattle.sbp_world.specs.Sessions.Entering.{is_open}
-use Rattle.sbp_world.specs.Lists.FifoWrites.{FifoWritesLaw, IsPlaceWrite, PlaceSo}
-use Rattle.sbp_world.specs.Lists.ManagedFor.{is_its_packet, managed_for, operation_if}
-use Rattle.sbp_world.specs.Lists.Needs.{IsCalm, OpenBefore, OpenBetween}
-use Rattle.sbp_world.specs.Lists.Statuses.{IsFifo, of_login, of_place}
+use Rattle.sbp_world.specs.Lists.Statuses.{of_login, of_place}
 use Rattle.sbp_world.proofs.Lists.ManageKnown.{OfWire, RestGot, before_it}
 use Rattle.sbp_world.proofs.Lists.ManageLaws.{known_after, known_between}
 use Rattle.sbp_world.proofs.Lists.ManageOpen.{GotAt, GotLaw}

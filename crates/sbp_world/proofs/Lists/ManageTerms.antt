@@ -1,13 +1,8 @@
 -- What a note leaves of the terms of the wire that management in hand is read off: which packets were sent, how often each was taken as new, generations and IDs,
 -- the present request of a transaction and the rcode that was given to it.
-use Rattle.std.proofs.Common.{arith, ◌≡◌, ◌∙◌, ◌⊎◌, inl, inr, refl, sym, ap, subst, ℕ, ◌+◌, ◌≤◌, ◌<◌, nat_eq, Bool, true, false, cond, List, ◌∷◌, Option, Some, None}
-use Rattle.std.proofs.lemmas.Bool.Decides.{nat_tests}
-use Rattle.async_packet.specs.Fields.{rcode_of}
-use Rattle.sbp_base.specs.Update.{upd}
-use Rattle.sbp_journal.specs.Run.{Moment, said}
-use Rattle.sbp_journal.specs.Transactions.{Kind, Part, Sending, Transaction, asked_by, between, is_same_kind, no_packet, part_of, request, response}
-use Rattle.sbp_journal.specs.Wire.{Held, Owed, Terms, arrives, begun_in, closes, closes_if, free, gets, gets_as, ignores, ignores_that, is_news, is_served, judges, judges_if, rests, terms, times_out, waits}
-use Rattle.sbp_journal.specs.declared.cause.Cause.{Cause}
+use Rattle.sbp_world.proofs.Words.Std.{arith, ◌≡◌, ◌∙◌, ◌⊎◌, inl, inr, refl, sym, ap, subst, ℕ, ◌+◌, ◌≤◌, ◌<◌, nat_eq, Bool, true, false, cond, List, ◌∷◌, Option, Some, None, nat_tests, upd}
+use Rattle.sbp_world.proofs.Words.Wire.{rcode_of, Moment, said, Kind, Part, Sending, Transaction, asked_by, between, is_same_kind, part_of, request, response, Held, Owed, Terms, arrives, begun_in, closes, closes_if, free, gets, gets_as, ignores, ignores_that, is_news, is_served, judges, judges_if, rests, terms, times_out, waits, Cause}
+use Rattle.sbp_journal.specs.Transactions.{no_packet}
 use Rattle.sbp_journal.specs.declared.cause.Cause.TheVariants as causes
 use Rattle.sbp_journal.specs.declared.note.Note.TheVariants as notes
 use Rattle.sbp_world.proofs.Common.{untrue}

@@ -1,21 +1,12 @@
 -- What is in hand of an initiator's management stays as it lets a transaction time out.
-use Rattle.std.proofs.Common.{arith, ◌≡◌, ◌∙◌, ◌⊎◌, inl, inr, refl, sym, ap, subst, ℕ, ◌≤◌, Bool, true, false, List, ◌∷◌, Option, Some, None}
-use Rattle.async_packet.specs.Labels.{LabelParts}
-use Rattle.label_table.specs.Layer.{Layer, expiring_step}
-use Rattle.rbc_disk.specs.Disk.{Disk}
-use Rattle.sbp_initiator.specs.declared.purpose.Purpose.{Purpose}
-use Rattle.sbp_initiator.specs.declared.purpose.Running.{Running}
-use Rattle.sbp_initiator.specs.declared.state.InitiatorState.{InitiatorState}
-use Rattle.sbp_initiator.specs.Effects.{Turn}
-use Rattle.sbp_initiator.specs.Receiving.{expire_step}
-use Rattle.sbp_journal.specs.Outgoings.{empty_outbox}
-use Rattle.sbp_journal.specs.Run.{Moment, said}
-use Rattle.sbp_journal.specs.Wire.{terms}
+use Rattle.sbp_world.proofs.Words.Std.{arith, ◌≡◌, ◌∙◌, ◌⊎◌, inl, inr, refl, sym, ap, subst, ℕ, ◌≤◌, Bool, true, false, List, ◌∷◌, Option, Some, None}
+use Rattle.sbp_world.proofs.Words.Wire.{LabelParts, Layer, expiring_step, empty_outbox, Moment, said, terms}
+use Rattle.sbp_world.proofs.Words.Target.{Disk}
+use Rattle.sbp_world.proofs.Words.Initiator.{Purpose, Running, InitiatorState, Turn, expire_step, is_stuck_seat}
+use Rattle.sbp_world.proofs.Words.Laws.{host_at, is_management}
+use Rattle.sbp_world.proofs.Words.World.{behind, IsFree}
 use Rattle.sbp_journal.specs.declared.note.Note.TheVariants as notes
-use Rattle.sbp_laws.specs.Hosts.{host_at, is_management}
-use Rattle.sbp_session.specs.Seats.{is_stuck_seat}
 use Rattle.sbp_world.proofs.Wire.Agrees.{timed_agrees}
-use Rattle.sbp_world.specs.Hosts.Calls.{behind}
 use Rattle.sbp_world.proofs.Hosts.Held.{timed_waits}
 use Rattle.sbp_world.proofs.Hosts.Hosted.{Cored, expires_fit}
 use Rattle.sbp_world.proofs.Hosts.Layered.{AreTame, Left as LayerOf}
@@ -23,7 +14,6 @@ use Rattle.sbp_world.proofs.Hosts.Lives.{expire_at}
 use Rattle.sbp_world.proofs.Hosts.Pointed.{expired_called, expiring_stays}
 use Rattle.sbp_world.proofs.Hosts.Pointing.{called_of}
 use Rattle.sbp_world.proofs.Hosts.Shown.{IsShown}
-use Rattle.sbp_world.specs.Lists.Managing.{IsFree}
 use Rattle.sbp_world.proofs.Lists.ManageFirsts.{Goes, goes_then, note_first, told_first}
 use Rattle.sbp_world.proofs.Lists.ManageHand.{InHand, Own, busy_on}
 use Rattle.sbp_world.proofs.Lists.ManageHears.{Never, lapses_left}

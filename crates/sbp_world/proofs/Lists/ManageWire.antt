@@ -1,23 +1,8 @@
 -- What the wire knows at each moment: as a packet is sent, as it is got, as a transaction times out and as a line begins.
-use Rattle.std.proofs.Common.{◌≡◌, ◌∙◌, refl, sym, ap, subst, ℕ, ◌<◌, true, List, [], ◌∷◌, Option, Some, None, Result, Ok, Err}
-use Rattle.async_packet.specs.Labels.{LabelParts}
-use Rattle.label_table.specs.declared.judgement.Asked.{Asked}
-use Rattle.label_table.specs.declared.reply.Stale.{Stale}
-use Rattle.label_table.specs.declared.reply.ReplyKind.{ReplyKind}
-use Rattle.label_table.specs.Layer.{Finding, answering_step, asking_step, expiring_step, judging_step, of_again, of_generation, of_grammar, of_label, of_request, of_response}
-use Rattle.label_table.specs.Peers.{state_for}
-use Rattle.sbp_journal.specs.Run.{Moment, asked, said}
-use Rattle.sbp_journal.specs.Transactions.{Kind, Sending, Transaction, between}
-use Rattle.sbp_journal.specs.Wire.{Held, Owed, Terms, asked_in, free, rests, terms, waits}
-use Rattle.sbp_journal.specs.declared.cause.Cause.{Cause}
-use Rattle.sbp_journal.specs.declared.note.Note.{Note}
+use Rattle.sbp_world.proofs.Words.Std.{◌≡◌, ◌∙◌, refl, sym, ap, subst, ℕ, ◌<◌, true, List, [], ◌∷◌, Option, Some, None, Result, Ok, Err}
+use Rattle.sbp_world.proofs.Words.Wire.{LabelParts, Asked, Stale, ReplyKind, Finding, answering_step, asking_step, expiring_step, judging_step, of_again, of_generation, of_grammar, of_label, of_request, of_response, state_for, Moment, asked, said, Kind, Sending, Transaction, between, Held, Owed, Terms, asked_in, free, rests, terms, waits, Cause, Note, awaits, shape, shape_of, Due, Node, Wire, first_note, id_for, next_serial, transaction, Move, after, answer, answering, ask, asking, deliver, disown, expire, expiring, inject, lose, moved, reset, see, start, tell, May, MayAll, is_plain, Reached}
+use Rattle.sbp_world.proofs.Words.Laws.{EachMoment}
 use Rattle.sbp_journal.specs.declared.note.Note.TheVariants as notes
-use Rattle.sbp_laws.specs.Turns.{EachMoment}
-use Rattle.bus_transactions.specs.Rows.{awaits, shape, shape_of}
-use Rattle.bus_transactions.specs.Wire.{Due, Node, Wire, first_note, id_for, next_serial, transaction}
-use Rattle.bus_transactions.specs.Moves.{Move, after, answer, answering, ask, asking, deliver, disown, expire, expiring, inject, lose, moved, reset, see, start, tell}
-use Rattle.bus_transactions.specs.May.{May, MayAll, is_plain}
-use Rattle.bus_transactions.specs.Reached.{Reached}
 use Rattle.bus_transactions.proofs.Facts.{Facts, fair, request_asked}
 use Rattle.bus_transactions.proofs.Follows.{found_kept, is_live}
 use Rattle.bus_transactions.proofs.MoveOthers.{settled}

@@ -1,47 +1,20 @@
 -- In each line whose action begins an operation of management, what its initiator sends is the write of the address of its management ORB, which stands in the next place.
-use Rattle.std.specs.Prelude.{unwrap_or}
-use Rattle.std.proofs.Common.{arith, ◌≡◌, refl, sym, ◌∙◌, ap, subst, ℕ, suc, ◌+◌, ◌%◌, nat_eq, Bool, true, false, List, [], ◌∷◌, ◌++◌, Option, Some, None}
-use Rattle.std.proofs.lemmas.Bool.Decides.{nat_tests}
+use Rattle.sbp_world.proofs.Words.Std.{unwrap_or, arith, ◌≡◌, refl, sym, ◌∙◌, ap, subst, ℕ, suc, ◌+◌, ◌%◌, nat_eq, Bool, true, false, List, [], ◌∷◌, ◌++◌, Option, Some, None, nat_tests}
+use Rattle.sbp_world.proofs.Words.Wire.{Asked, header_to, request_with, Layer, judged_note, access_of, empty_outbox, Moment, said, terms, Judged, Action, Note, Outgoing, Side}
+use Rattle.sbp_world.proofs.Words.Initiator.{Demand, Purpose, InitiatorState, act_step, asked_as, asked_for, demand_of, demanded_as, done_step, facts_with, judged_as, manage_demand, Turn, expire_step, receive_step, refusal, see_step, wanted_body}
+use Rattle.sbp_world.proofs.Words.Laws.{host_at, operation_of, access_in_bytes, EachMoment, event_of}
+use Rattle.sbp_world.proofs.Words.World.{Run, after, beginning, initiator_at, behind, Core, managed_write, manages}
 use Rattle.bus_transactions.proofs.Fits.{request_fits}
-use Rattle.label_table.specs.declared.judgement.Asked.{Asked}
-use Rattle.label_table.specs.Bodies.{header_to, request_with}
-use Rattle.label_table.specs.Layer.{Layer}
-use Rattle.sbp_bus.specs.Packets.{judged_note}
-use Rattle.sbp_initiator.specs.declared.purpose.Demand.{Demand}
-use Rattle.sbp_initiator.specs.declared.purpose.Purpose.{Purpose}
-use Rattle.sbp_initiator.specs.declared.state.InitiatorState.{InitiatorState}
-use Rattle.sbp_initiator.specs.Acting.{act_step, asked_as, asked_for, demand_of, demanded_as, done_step, facts_with, judged_as, manage_demand}
-use Rattle.sbp_initiator.specs.Effects.{Turn}
-use Rattle.sbp_initiator.specs.Receiving.{expire_step, receive_step}
-use Rattle.sbp_initiator.specs.Refusals.{refusal}
-use Rattle.sbp_initiator.specs.Seeing.{see_step}
-use Rattle.sbp_initiator.specs.States.{wanted_body}
-use Rattle.sbp_journal.specs.Addresses.{access_of}
-use Rattle.sbp_journal.specs.Outgoings.{empty_outbox}
-use Rattle.sbp_journal.specs.Run.{Moment, said}
-use Rattle.sbp_journal.specs.Wire.{terms}
-use Rattle.sbp_journal.specs.declared.cause.Judged.{Judged}
 use Rattle.sbp_journal.specs.declared.cause.Judged.TheVariants as judgements
-use Rattle.sbp_journal.specs.declared.event.Action.{Action}
 use Rattle.sbp_journal.specs.declared.event.Action.TheVariants as actions
 use Rattle.sbp_journal.specs.declared.event.Event.TheVariants as events
-use Rattle.sbp_journal.specs.declared.note.Note.{Note}
 use Rattle.sbp_journal.specs.declared.note.Note.TheVariants as notes
-use Rattle.sbp_journal.specs.declared.outbox.Outgoing.{Outgoing}
-use Rattle.sbp_journal.specs.declared.side.Side.{Side}
 use Rattle.sbp_journal.specs.declared.side.Side.TheVariants as sides
-use Rattle.sbp_laws.specs.Hosts.{host_at, operation_of}
-use Rattle.sbp_laws.specs.Packets.{access_in_bytes}
-use Rattle.sbp_laws.specs.Turns.{EachMoment, event_of}
-use Rattle.sbp_world.specs.Runs.{Run, after, beginning}
-use Rattle.sbp_world.specs.Worlds.{initiator_at}
 use Rattle.sbp_world.proofs.FitInitiator.Acts.{IfDemand, demand_fits}
 use Rattle.sbp_world.proofs.FitInitiator.Law.{fitting_law as own_fitting_law}
 use Rattle.sbp_world.proofs.FitTarget.Law.{fitting_law}
 use Rattle.sbp_world.proofs.Wire.Holding.{TargetOf, target_small}
 use Rattle.sbp_world.proofs.Wire.Runs.{sound_after}
-use Rattle.sbp_world.specs.Hosts.Calls.{behind}
-use Rattle.sbp_world.specs.Hosts.Core.{Core}
 use Rattle.sbp_world.proofs.Hosts.ActLeft.{act_left}
 use Rattle.sbp_world.proofs.Hosts.Carried.{Knows}
 use Rattle.sbp_world.proofs.Hosts.Carries.{Carries, IsNoAct, is_apart}
@@ -51,7 +24,6 @@ use Rattle.sbp_world.proofs.Hosts.Pointed.{stale_is}
 use Rattle.sbp_world.proofs.Hosts.PointerNotes.{tame_told}
 use Rattle.sbp_world.proofs.Hosts.PointSees.{see_left}
 use Rattle.sbp_world.proofs.Hosts.Requested.{done_sends}
-use Rattle.sbp_world.specs.Pointers.Moments.{managed_write, manages}
 use Rattle.sbp_world.proofs.Lists.ManageSpelled.{spelled_by}
 use Rattle.sbp_world.proofs.Lists.ManageTerms.{none_is, same_some}
 use Rattle.sbp_world.proofs.Pointers.Asks.{no_packet}

@@ -1,19 +1,11 @@
 -- An initiator that sees a later generation has nothing in hand of its management then: what the target has and tells is of generations that it saw.
-use Rattle.std.proofs.Common.{arith, ◌≡◌, ◌∙◌, ◌⊎◌, inl, inr, refl, sym, ap, subst, ℕ, zero, suc, ◌≤◌, ◌<◌, ◌&&◌, not, nat_eq, Bool, true, false, cond, List, [], ◌∷◌, Option, Some, None}
-use Rattle.std.proofs.lemmas.Bool.Decides.{nat_tests}
-use Rattle.bus_transactions.specs.Packets.{SerialsCount}
+use Rattle.sbp_world.proofs.Words.Std.{arith, ◌≡◌, ◌∙◌, ◌⊎◌, inl, inr, refl, sym, ap, subst, ℕ, zero, suc, ◌≤◌, ◌<◌, ◌&&◌, not, nat_eq, Bool, true, false, cond, List, [], ◌∷◌, Option, Some, None, nat_tests}
+use Rattle.sbp_world.proofs.Words.Wire.{SerialsCount, Moment, asked, said, Sending, Terms, terms, Event, Note}
+use Rattle.sbp_world.proofs.Words.Target.{Operation, Disk}
+use Rattle.sbp_world.proofs.Words.Laws.{is_nothing, is_serial, target_at}
+use Rattle.sbp_world.proofs.Words.World.{is_its_packet, managed_for, operation_if, IsFree}
 use Rattle.bus_transactions.proofs.Facts.{Facts}
-use Rattle.mgmt_agent.specs.declared.operation.Operation.{Operation}
-use Rattle.rbc_disk.specs.Disk.{Disk}
-use Rattle.sbp_journal.specs.Run.{Moment, asked, said}
-use Rattle.sbp_journal.specs.Transactions.{Sending}
-use Rattle.sbp_journal.specs.Wire.{Terms, terms}
-use Rattle.sbp_journal.specs.declared.event.Event.{Event}
-use Rattle.sbp_journal.specs.declared.note.Note.{Note}
 use Rattle.sbp_journal.specs.declared.note.Note.TheVariants as notes
-use Rattle.sbp_laws.specs.Targets.{is_nothing, is_serial, target_at}
-use Rattle.sbp_world.specs.Lists.ManagedFor.{is_its_packet, managed_for, operation_if}
-use Rattle.sbp_world.specs.Lists.Managing.{IsFree}
 use Rattle.sbp_world.proofs.Lists.ManageKnown.{OfWire, before_it, current_of}
 use Rattle.sbp_world.proofs.Lists.ManageOffices.{GotAs, Lingers, Replies, Settles, got_as, got_other, got_replies, got_settles, got_starts, ignored_settles, key_lingers, line_settles, none_left, note_lingers, office_at, rested, sees_none, sent_office, settles_of, sight_settles, stays, tick_settles, timed_by}
 use Rattle.sbp_world.proofs.Lists.ManageSends.{opened_terms, sent_is, sent_other, sent_terms}

@@ -1,48 +1,25 @@
 -- As each packet is got in a run in which no initiator injected packets, or few logins were given, of each initiator that injected none, what answers the management operation begins elsewhere than in a slot.
-use Rattle.std.proofs.Common.{arith, ◌≡◌, ◌∙◌, refl, sym, ap, subst, ◌<◌, ◌+◌, ◌&&◌, ℕ, suc, Bool, true, false, cond, List, [], ◌∷◌, length, Option, Some, None}
-use Rattle.bus_memory.specs.Memory.{new_memory}
-use Rattle.bus_memory.specs.declared.window.Window.{Window}
+use Rattle.sbp_world.proofs.Words.Std.{arith, ◌≡◌, ◌∙◌, refl, sym, ap, subst, ◌<◌, ◌+◌, ◌&&◌, ℕ, suc, Bool, true, false, cond, List, [], ◌∷◌, length, Option, Some, None}
+use Rattle.sbp_world.proofs.Words.Wire.{Access, Moment, asked, said, Terms, terms, Event, Note}
+use Rattle.sbp_world.proofs.Words.Target.{Ahead, Main, Operation, high_eui_at, low_eui_at, source_in, Disk}
+use Rattle.sbp_world.proofs.Words.Initiator.{new_memory, Window, start_of, window_at}
+use Rattle.sbp_world.proofs.Words.Laws.{moved_by, payload_at, read_by, access_at, answered_at, id_for, receiver_in, sender_in, Agent, Purpose, Target, for_agent, for_manager, for_nobody, is_serial, over, purpose_among, purpose_of, target_at, EachMoment, injectors}
+use Rattle.sbp_world.proofs.Words.World.{WorldState, Office, AccessOf, WasAsked, AllElsewhere, IsElsewhere, IsManagedElsewhere, ManagedAsGot, ManagedAsGotLaw, more_deliveries, ready_logins, OpenListsLaw, IsTameOrFew, IsCalm, BasedAt, IsInAPlace, AreShort, data_slot}
 use Rattle.bus_memory.specs.declared.window.Window.TheVariants as windows
-use Rattle.bus_memory.specs.Windows.{start as start_of, window_at}
 use Rattle.bus_memory.proofs.Found.{window_here}
-use Rattle.command_agent.specs.declared.step.Which.TheVariants.{Ahead, Main}
-use Rattle.mgmt_agent.specs.declared.operation.Operation.{Operation}
 use Rattle.mgmt_agent.specs.declared.operation.Phase.{Phase}
 use Rattle.mgmt_agent.specs.declared.operation.Phase.TheVariants as phases
-use Rattle.mgmt_agent.specs.Machine.{Machine, high_eui_at, low_eui_at, source_in}
-use Rattle.rbc_disk.specs.Disk.{Disk}
-use Rattle.sbp_journal.specs.Addresses.{Access}
-use Rattle.sbp_journal.specs.Run.{Moment, asked, said}
-use Rattle.sbp_journal.specs.Wire.{Terms, terms}
-use Rattle.sbp_journal.specs.declared.event.Event.{Event}
-use Rattle.sbp_laws.specs.CarriedBytes.{moved_by, payload_at, read_by}
-use Rattle.sbp_laws.specs.Packets.{access_at, answered_at, id_for, receiver_in, sender_in}
-use Rattle.sbp_laws.specs.Targets.{Agent, Purpose, Target, for_agent, for_manager, for_nobody, is_serial, over, purpose_among, purpose_of, target_at}
-use Rattle.sbp_laws.specs.Turns.{EachMoment}
-use Rattle.sbp_world.specs.Worlds.{WorldState}
-use Rattle.sbp_world.specs.Agents.Management.Offices.{Office}
+use Rattle.mgmt_agent.specs.Machine.{Machine}
 use Rattle.sbp_world.proofs.Agents.Handed.{is_its_serial}
 use Rattle.sbp_world.proofs.Agents.Management.Offices.{over_keeps}
 use Rattle.sbp_world.proofs.Agents.Management.Still.{hist}
-use Rattle.sbp_world.specs.Lists.Contents.{AccessOf, WasAsked}
-use Rattle.sbp_world.specs.Lists.FedRuns.{AllElsewhere, IsElsewhere}
-use Rattle.sbp_world.specs.Lists.ManagedGots.{IsManagedElsewhere, ManagedAsGot, ManagedAsGotLaw}
-use Rattle.sbp_world.specs.Hosts.Runs.{more_deliveries}
-use Rattle.sbp_world.specs.Making.{ready_logins}
-use Rattle.sbp_world.specs.Lists.Closes.{OpenListsLaw}
-use Rattle.sbp_world.specs.Lists.FewLogins.{IsTameOrFew}
-use Rattle.sbp_world.specs.Lists.Needs.{IsCalm}
 use Rattle.sbp_world.specs.Agents.Holders.{IsOf}
 use Rattle.sbp_world.proofs.Agents.Management.Holding.{Holding}
 use Rattle.sbp_world.proofs.Lists.Beside.{done_based}
 use Rattle.sbp_world.proofs.Lists.Calm.{calm_before}
 use Rattle.sbp_world.proofs.Lists.KeptTurns.{id_is}
 use Rattle.sbp_world.proofs.Lists.LiveSteps.{id_in}
-use Rattle.sbp_laws.specs.Lawful.{injectors}
-use Rattle.sbp_journal.specs.declared.note.Note.{Note}
 use Rattle.sbp_journal.specs.declared.note.Note.TheVariants as notes
-use Rattle.sbp_world.specs.Lists.Placings.{BasedAt, IsInAPlace}
-use Rattle.sbp_world.specs.Lists.Shorts.{AreShort}
 use Rattle.sbp_world.proofs.Lists.BufferClears.{Ground, ground_everywhere}
 use Rattle.sbp_world.proofs.Lists.Courses.{EveryPlace, Keeps, at_between, at_lines, more_than_one}
 use Rattle.sbp_world.proofs.Lists.GotTurns.{got_turn}
@@ -54,7 +31,6 @@ use Rattle.sbp_world.proofs.Lists.LiveRuns.{goes_tame_or_few}
 use Rattle.sbp_world.proofs.Lists.OfficeWrites.{OfficeSoAt, comes_of, office_everywhere, op_placed}
 use Rattle.sbp_world.proofs.Lists.OrbWaits.{over_twice}
 use Rattle.sbp_world.proofs.Lists.OwnGots.{answered_same, read_so}
-use Rattle.sbp_world.specs.Lists.OwnReads.{data_slot}
 use Rattle.sbp_world.proofs.Lists.ContentManages.{bound}
 use Rattle.sbp_world.proofs.Lists.ManageTerms.{none_is, same_some}
 use Rattle.sbp_world.proofs.Lists.OfficeAsks.{HasOpOf}

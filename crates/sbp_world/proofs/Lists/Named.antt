@@ -1,22 +1,12 @@
 -- What is told of an ORB that an agent has: the note of a run and of an end, as the law of lists has it.
-use Rattle.std.proofs.Common.{◌≡◌, ◌∙◌, refl, sym, ap, subst, ℕ, suc, nat_eq, Bool, true, false, cond, List, ◌∷◌, length, take, Option, Some, None, arith}
-use Rattle.std.proofs.lemmas.Bool.Decides.{nat_tests}
-use Rattle.std.proofs.lemmas.Option.{none-some}
-use Rattle.orb_layout.specs.declared.status.StatusKind.{StatusKind}
-use Rattle.orb_layout.specs.declared.command.CommandOrb.{CommandOrb}
-use Rattle.page_table.specs.declared.segment.Segment.{Segment}
-use Rattle.rbc_command.specs.declared.sense.Sense.{Sense}
-use Rattle.rbc_disk.specs.Units.{PlainDisk}
-use Rattle.agent_laws.specs.Along.Along.{Progress}
-use Rattle.agent_laws.specs.Along.Steps.{IsRun}
-use Rattle.sbp_journal.specs.declared.event.Cmd.{Cmd}
-use Rattle.sbp_journal.specs.Run.{Moment, said}
+use Rattle.sbp_world.proofs.Words.Std.{◌≡◌, ◌∙◌, refl, sym, ap, subst, ℕ, suc, nat_eq, Bool, true, false, cond, List, ◌∷◌, length, take, Option, Some, None, arith, nat_tests, none-some}
+use Rattle.sbp_world.proofs.Words.Wire.{Cmd, Moment, said}
+use Rattle.sbp_world.proofs.Words.Target.{Sense, PlainDisk, Progress, IsRun}
+use Rattle.sbp_world.proofs.Words.Initiator.{StatusKind, CommandOrb, Segment}
+use Rattle.sbp_world.proofs.Words.Laws.{command_at, IsNextEnd, ends}
+use Rattle.sbp_world.proofs.Words.World.{IsDataIn, orbs, IsNextRun}
 use Rattle.sbp_journal.specs.declared.note.Note.TheVariants as notes
-use Rattle.sbp_laws.specs.Lists.{command_at}
-use Rattle.sbp_laws.specs.OrderLaw.{IsNextEnd}
-use Rattle.sbp_laws.specs.Terms.{ends}
-use Rattle.sbp_world.specs.Lists.Lists.{IsDataIn, IsDataOf, orbs}
-use Rattle.sbp_world.specs.Lists.Running.{IsNextRun}
+use Rattle.sbp_world.specs.Lists.Lists.{IsDataOf}
 use Rattle.sbp_world.proofs.Lists.Passing.{PassAt, EndsNext, RunsNext}
 use Rattle.sbp_world.proofs.Common.{itself}
 

@@ -1,36 +1,17 @@
 -- At a place of a run the agent of the target has the ORB that was prepared last in its slot, of an initiator that injected no packets; and so has it what a packet brings to it that it gets.
-use Rattle.std.proofs.Common.{◌≡◌, ◌∙◌, refl, sym, ap, subst, ◌<◌, ◌++◌, ℕ, suc, Bool, true, List, [], ◌∷◌, length, Some}
-use Rattle.async_packet.specs.Labels.{LabelParts}
-use Rattle.async_packet.specs.Packet.{Packet, header_in}
-use Rattle.command_agent.specs.declared.step.Which.{Which}
-use Rattle.label_table.specs.Layer.{judging_step, of_response}
-use Rattle.orb_layout.specs.declared.command.CommandOrb.{CommandOrb}
-use Rattle.packet_store.specs.declared.sent.Sent.{Sent}
-use Rattle.packet_store.specs.Kept.{found_sent}
-use Rattle.rbc_disk.specs.Disk.{Disk}
-use Rattle.sbp_journal.specs.Run.{Moment, asked, said}
-use Rattle.sbp_journal.specs.Wire.{Terms, opened, terms}
-use Rattle.sbp_journal.specs.declared.event.Event.{Event}
+use Rattle.sbp_world.proofs.Words.Std.{◌≡◌, ◌∙◌, refl, sym, ap, subst, ◌<◌, ◌++◌, ℕ, suc, Bool, true, List, [], ◌∷◌, length, Some}
+use Rattle.sbp_world.proofs.Words.Wire.{LabelParts, Packet, header_in, judging_step, of_response, Sent, found_sent, Moment, asked, said, Terms, opened, terms, Event}
+use Rattle.sbp_world.proofs.Words.Target.{Which, Disk, which_in, desk_at, answer_in}
+use Rattle.sbp_world.proofs.Words.Initiator.{CommandOrb}
+use Rattle.sbp_world.proofs.Words.Laws.{named_orb, prepared_in, receiver_in, agent_at, over, target_at, EachMoment}
+use Rattle.sbp_world.proofs.Words.World.{WorldState, initiator_at, without_notes, serial_of, AreRows, IsCalm, initiator_in, is_open_at, machine_at, AreLed, IsJustBrought, IsLedTo, IsStillBrought, AskedAsGot}
 use Rattle.sbp_journal.specs.declared.note.Note.TheVariants as notes
-use Rattle.sbp_laws.specs.Lists.{orb as named_orb, prepared_in}
 use Rattle.sbp_laws.specs.Packets as laws
-use Rattle.sbp_laws.specs.Packets.{receiver_in}
-use Rattle.sbp_laws.specs.Targets.{agent_at, over, target_at}
 use Rattle.sbp_target.specs.declared.purpose.Purpose.TheVariants as purposes
-use Rattle.sbp_target.specs.Desks.{which_in}
-use Rattle.sbp_target.specs.Nodes.{desk_at}
-use Rattle.sbp_target.specs.Receiving.{answer_in}
-use Rattle.sbp_world.specs.Worlds.{WorldState, initiator_at, without_notes}
-use Rattle.sbp_world.specs.Agents.AskedRuns.{serial_of}
 use Rattle.sbp_world.proofs.Agents.Management.Holding.{Holding}
 use Rattle.sbp_world.proofs.Agents.Management.Still.{hist}
-use Rattle.sbp_world.specs.Hosts.Fits.{AreRows}
 use Rattle.sbp_world.proofs.Hosts.StepLaws.{step_law}
-use Rattle.sbp_world.specs.Lists.Needs.{IsCalm, initiator_in, is_open_at, machine_at}
-use Rattle.sbp_world.specs.Lists.OrbNames.{AreLed, IsJustBrought, IsLedTo, IsStillBrought}
 use Rattle.sbp_world.proofs.Lists.Calm.{asked_calm}
-use Rattle.sbp_world.specs.Lists.OrbReads.{AskedAsGot}
-use Rattle.sbp_laws.specs.Turns.{EachMoment}
 use Rattle.sbp_world.proofs.Lists.FedStillPlaces.{HasFed, has_fed}
 use Rattle.sbp_world.proofs.Lists.FedStillReads.{AreFedStill}
 use Rattle.sbp_world.proofs.Lists.Heard.{tells}

@@ -1,26 +1,14 @@
 -- An ORB that was brought of a slot that it had then was read as the laws have it, behind its append; and where its list was open as its read was sent, whole.
-use Rattle.std.proofs.Common.{arith, ◌≡◌, ◌∙◌, refl, sym, ap, subst, append_assoc, ◌<◌, ◌+◌, ℕ, suc, Bool, false, List, [], ◌∷◌, ◌++◌, Some}
-use Rattle.std.proofs.lemmas.Option.{same_Some}
-use Rattle.bus_transactions.specs.Packets.{SerialsCount}
-use Rattle.orb_layout.specs.declared.command.CommandOrb.{CommandOrb}
-use Rattle.rbc_disk.specs.Disk.{Disk}
-use Rattle.sbp_journal.specs.Run.{Moment, said}
-use Rattle.sbp_journal.specs.Wire.{terms}
-use Rattle.sbp_laws.specs.CarriedBytes.{address_of, before_sent, open_list}
-use Rattle.sbp_laws.specs.Lists.{orb as named_orb, prepared_in}
-use Rattle.sbp_laws.specs.Targets.{initiator_at, over, target_at}
-use Rattle.sbp_laws.specs.Turns.{EachMoment}
+use Rattle.sbp_world.proofs.Words.Std.{arith, ◌≡◌, ◌∙◌, refl, sym, ap, subst, append_assoc, ◌<◌, ◌+◌, ℕ, suc, Bool, false, List, [], ◌∷◌, ◌++◌, Some, same_Some}
+use Rattle.sbp_world.proofs.Words.Wire.{SerialsCount, Moment, said, terms, Access}
+use Rattle.sbp_world.proofs.Words.Target.{Disk}
+use Rattle.sbp_world.proofs.Words.Initiator.{CommandOrb}
+use Rattle.sbp_world.proofs.Words.Laws.{address_of, before_sent, open_list, named_orb, prepared_in, initiator_at, over, target_at, EachMoment, OrderLaw, appends, lists}
+use Rattle.sbp_world.proofs.Words.World.{IsCalm, IsNamedBrought, AnswersAt, IsBrought, SentAsGot, read_access}
 use Rattle.sbp_journal.specs.declared.note.Note.TheVariants as notes
-use Rattle.sbp_laws.specs.OrderLaw.{OrderLaw}
-use Rattle.sbp_laws.specs.Terms.{appends, lists}
-use Rattle.sbp_world.specs.Lists.Needs.{IsCalm}
 use Rattle.sbp_world.proofs.Lists.Calm.{calm_before}
 use Rattle.sbp_world.proofs.Lists.BegunLists.{latest_then, order_from}
-use Rattle.sbp_world.specs.Lists.OrbNames.{IsNamedBrought}
-use Rattle.sbp_world.specs.Lists.OrbReads.{AnswersAt, IsBrought, SentAsGot}
 use Rattle.sbp_world.proofs.Lists.WasReads.{SpellsOrb, it_answers, was_appended, was_read, was_read_by}
-use Rattle.sbp_world.specs.Agents.AskedRuns.{read_access}
-use Rattle.sbp_journal.specs.Addresses.{Access}
 use Rattle.sbp_world.proofs.Lists.AsGot.{AsGot}
 use Rattle.sbp_world.proofs.Lists.OpenGots.{OpenAsGot}
 use Rattle.sbp_world.proofs.Lists.OpenSends.{AreOpenReads}

@@ -1,32 +1,16 @@
 -- A write of ORB_POINTER that the target got is one that its initiator named for a list, whose first ORB its slot held as the write was got: as no ORB of the list had
 -- ended then, and no status of it was taken.
-use Rattle.std.proofs.Common.{arith, ◌≡◌, ◌∙◌, refl, sym, ap, subst, ℕ, ◌<◌, ◌≤◌, ◌+◌, Bool, false, List, [], ◌∷◌, ◌++◌, length, Option, Some, None}
-use Rattle.bus_memory.specs.Windows.{slot_of, start}
+use Rattle.sbp_world.proofs.Words.Std.{arith, ◌≡◌, ◌∙◌, refl, sym, ap, subst, ℕ, ◌<◌, ◌≤◌, ◌+◌, Bool, false, List, [], ◌∷◌, ◌++◌, length, Option, Some, None}
+use Rattle.sbp_world.proofs.Words.Wire.{AreJudged, SerialsCount, Moment, asked, said, Sending, terms, Event}
+use Rattle.sbp_world.proofs.Words.Target.{Disk}
+use Rattle.sbp_world.proofs.Words.Initiator.{slot_of, start}
+use Rattle.sbp_world.proofs.Words.Laws.{linked, named_in, prepared_in, slot_at, taken_at, appends, ends}
+use Rattle.sbp_world.proofs.Words.World.{moments_behind, Run, beginning, IsOfWire, Scene, WorldState, PointersAt, pointed_list, AreBegun, AreFirsts, AreUntaken, AreNamed, IsCalm, IsPointedBy, AreNamedFor, IsNamedFor, IsFirst}
 use Rattle.bus_memory.proofs.Found.{slot_of_law}
-use Rattle.bus_transactions.specs.Judging.{AreJudged}
-use Rattle.bus_transactions.specs.Packets.{SerialsCount}
-use Rattle.rbc_disk.specs.Disk.{Disk}
-use Rattle.sbp_journal.specs.Run.{Moment, asked, said}
-use Rattle.sbp_journal.specs.Transactions.{Sending}
-use Rattle.sbp_journal.specs.Wire.{terms}
-use Rattle.sbp_journal.specs.declared.event.Event.{Event}
 use Rattle.sbp_journal.specs.declared.event.Event.TheVariants as events
 use Rattle.sbp_journal.specs.declared.note.Note.TheVariants as notes
-use Rattle.sbp_laws.specs.Lists.{linked, named_in, prepared_in, slot_at, taken_at}
-use Rattle.sbp_laws.specs.Terms.{appends, ends}
-use Rattle.sbp_world.specs.Histories.{moments_behind}
-use Rattle.sbp_world.specs.Runs.{Run, beginning}
-use Rattle.sbp_world.specs.Wire.History.{IsOfWire}
-use Rattle.sbp_world.specs.Worlds.{Scene, WorldState}
 use Rattle.sbp_world.proofs.Agents.Management.Still.{hist}
 use Rattle.sbp_world.proofs.Hosts.SentMoments.{sent_below, serials_from}
-use Rattle.sbp_world.specs.Pointers.Pointers.{PointersAt, pointed_list}
-use Rattle.sbp_world.specs.Lists.Begun.{AreBegun}
-use Rattle.sbp_world.specs.Lists.Closes.{AreFirsts, AreUntaken}
-use Rattle.sbp_world.specs.Lists.Names.{AreNamed}
-use Rattle.sbp_world.specs.Lists.Needs.{IsCalm}
-use Rattle.sbp_world.specs.Lists.Opens.{IsPointedBy}
-use Rattle.sbp_world.specs.Lists.Places.{AreNamedFor, IsNamedFor, IsFirst}
 use Rattle.sbp_world.proofs.Lists.EndedLists.{ended_had, none_ended}
 use Rattle.sbp_world.proofs.Lists.Gots.{WhereGot, got_before, got_here, got_in_line, got_where, turn_next}
 use Rattle.sbp_world.proofs.Lists.OpenFresh.{writes_of}

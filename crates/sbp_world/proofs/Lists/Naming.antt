@@ -1,32 +1,14 @@
 -- In every run an ORB of an initiator's latest list of which no status was taken stands in its slot, and is the one that its address names.
-use Rattle.std.proofs.Common.{◌≡◌, ◌∙◌, refl, sym, ap, subst, ℕ, suc, ◌<◌, ◌≤◌, nat_lt, Bool, true, cond, List, ◌∷◌, ◌++◌, map, length, Option, Some, None, arith}
-use Rattle.std.proofs.lemmas.Bool.Decides.{nat_tests}
+use Rattle.sbp_world.proofs.Words.Std.{◌≡◌, ◌∙◌, refl, sym, ap, subst, ℕ, suc, ◌<◌, ◌≤◌, nat_lt, Bool, true, cond, List, ◌∷◌, ◌++◌, map, length, Option, Some, None, arith, nat_tests}
+use Rattle.sbp_world.proofs.Words.Wire.{list_in, orb_in, Event, Moment, asked, said}
+use Rattle.sbp_world.proofs.Words.Target.{Told}
+use Rattle.sbp_world.proofs.Words.Initiator.{last_at, last_in, slot_in, TicketParts}
+use Rattle.sbp_world.proofs.Words.Laws.{address_of, orb, slot_at, taken_at, appends, lists}
+use Rattle.sbp_world.proofs.Words.World.{history_of, Run, after, beginning, MayAll, after_all, ticket_at, Scene, WorldState, begun, initiator_at, DeliversMore, AreRows, name_in, IsRun, more_deliveries, IsHost, AreNamed, NamesLaw, IsNamed, initiator_in}
 use Rattle.bus_memory.proofs.Found.{slot_of_law}
-use Rattle.orb_list.specs.Lists.{last_at, last_in}
-use Rattle.orb_list.specs.Table.{slot_in}
-use Rattle.orb_list.specs.Tickets.{TicketParts}
-use Rattle.rbc_disk.specs.Runs.{Told}
-use Rattle.sbp_bus.specs.Telling.{list_in, orb_in}
-use Rattle.sbp_journal.specs.declared.event.Event.{Event}
 use Rattle.sbp_journal.specs.declared.event.Event.TheVariants as events
-use Rattle.sbp_journal.specs.Run.{Moment, asked, said}
-use Rattle.sbp_laws.specs.CarriedBytes.{address_of}
 use Rattle.sbp_laws.specs.Lists as terms
-use Rattle.sbp_laws.specs.Lists.{orb, slot_at, taken_at}
-use Rattle.sbp_laws.specs.Terms.{appends, lists}
-use Rattle.sbp_world.specs.Histories.{history_of}
-use Rattle.sbp_world.specs.Runs.{Run, after, beginning}
-use Rattle.sbp_world.specs.Settling.{MayAll, after_all}
-use Rattle.sbp_world.specs.Telling.{ticket_at}
-use Rattle.sbp_world.specs.Worlds.{Scene, WorldState, begun, initiator_at}
-use Rattle.sbp_world.specs.Agents.Management.Terms.{DeliversMore}
-use Rattle.sbp_world.specs.Hosts.Fits.{AreRows}
-use Rattle.sbp_world.specs.Hosts.Rows.{name_in}
-use Rattle.sbp_world.specs.Hosts.Runs.{IsRun, more_deliveries}
-use Rattle.sbp_world.specs.Hosts.Worlds.{IsHost}
 use Rattle.sbp_world.proofs.Hosts.Runs.{count_after, count_between, run_law}
-use Rattle.sbp_world.specs.Lists.Names.{AreNamed, NamesLaw}
-use Rattle.sbp_world.specs.Lists.Needs.{IsNamed, initiator_in}
 use Rattle.sbp_world.proofs.Lists.Passing.{PassLaw}
 use Rattle.sbp_world.proofs.Lists.Histories.{after_lines, between}
 use Rattle.sbp_world.proofs.Lists.Stands.{standing}

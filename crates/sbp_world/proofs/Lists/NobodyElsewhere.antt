@@ -1,23 +1,11 @@
 -- What the target gets in answer to a request of nobody begins elsewhere than in the slot of an ORB of an open list: a request that goes there is under way, and is the main transaction of an agent, or an ORB had the slot whose list was cut.
-use Rattle.std.proofs.Common.{arith, ◌≡◌, ◌∙◌, refl, sym, ap, inl, inr, ◌⊎◌, ◌<◌, ◌≤◌, ◌==◌, ◌&&◌, ℕ, suc, Bool, true, false, cond, List, [], Option, Some, None}
-use Rattle.std.proofs.lemmas.Bool.Decides.{nat_tests}
+use Rattle.sbp_world.proofs.Words.Std.{arith, ◌≡◌, ◌∙◌, refl, sym, ap, inl, inr, ◌⊎◌, ◌<◌, ◌≤◌, ◌==◌, ◌&&◌, ℕ, suc, Bool, true, false, cond, List, [], Option, Some, None, nat_tests}
+use Rattle.sbp_world.proofs.Words.Wire.{SerialsCount, Access, Moment, Sending, Transaction, between, Held, Terms, terms}
+use Rattle.sbp_world.proofs.Words.Target.{Disk}
+use Rattle.sbp_world.proofs.Words.Initiator.{window_at}
+use Rattle.sbp_world.proofs.Words.Laws.{moved_by, payload_at, read_by, orb, prepared_in, taken_at, IsOpen, access_at, answered_at, begun_in, is_under_way, is_waiting_for, receiver_in, sender_in, waits_for, for_nobody, is_serial, over, purpose_of, target_at, ends}
+use Rattle.sbp_world.proofs.Words.World.{IsInSlot, IsMainAt, WasCutOff, AllElsewhere, data_slot}
 use Rattle.bus_memory.specs.declared.window.Window.TheVariants as windows
-use Rattle.bus_memory.specs.Windows.{window_at}
-use Rattle.bus_transactions.specs.Packets.{SerialsCount}
-use Rattle.rbc_disk.specs.Disk.{Disk}
-use Rattle.sbp_journal.specs.Addresses.{Access}
-use Rattle.sbp_journal.specs.Run.{Moment}
-use Rattle.sbp_journal.specs.Transactions.{Sending, Transaction, between}
-use Rattle.sbp_journal.specs.Wire.{Held, Terms, terms}
-use Rattle.sbp_laws.specs.CarriedBytes.{moved_by, payload_at, read_by}
-use Rattle.sbp_laws.specs.Lists.{orb, prepared_in, taken_at}
-use Rattle.sbp_laws.specs.OrderLaw.{IsOpen}
-use Rattle.sbp_laws.specs.Packets.{access_at, answered_at, begun_in, is_under_way, is_waiting_for, receiver_in, sender_in, waits_for}
-use Rattle.sbp_laws.specs.Targets.{for_nobody, is_serial, over, purpose_of, target_at}
-use Rattle.sbp_laws.specs.Terms.{ends}
-use Rattle.sbp_world.specs.Lists.CutOff.{IsInSlot, IsMainAt, WasCutOff}
-use Rattle.sbp_world.specs.Lists.FedRuns.{AllElsewhere}
-use Rattle.sbp_world.specs.Lists.OwnReads.{data_slot}
 use Rattle.sbp_world.proofs.Agents.Handed.{is_its_serial}
 use Rattle.sbp_world.proofs.Lists.BegunBy.{IsBegun, IsHeld, IsTransactionOf, begun_of, held_by, transaction_of}
 use Rattle.sbp_world.proofs.Lists.CutOffs.{off_apart}

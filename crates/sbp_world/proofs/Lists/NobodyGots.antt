@@ -1,18 +1,10 @@
 -- What answers no agent begins elsewhere, where what answers nobody does: what answers the management operation begins elsewhere as each packet is got.
-use Rattle.std.proofs.Common.{Bool, false, ◌≡◌, refl, ℕ, List, [], ◌∷◌, ◌++◌, Option, Some, None}
-use Rattle.rbc_disk.specs.Disk.{Disk}
-use Rattle.sbp_journal.specs.Run.{Moment, asked, said}
-use Rattle.sbp_journal.specs.Wire.{terms}
-use Rattle.sbp_journal.specs.declared.note.Note.{Note}
+use Rattle.sbp_world.proofs.Words.Std.{Bool, false, ◌≡◌, refl, ℕ, List, [], ◌∷◌, ◌++◌, Option, Some, None}
+use Rattle.sbp_world.proofs.Words.Wire.{Moment, asked, said, terms, Note}
+use Rattle.sbp_world.proofs.Words.Target.{Disk}
+use Rattle.sbp_world.proofs.Words.Laws.{read_by, answered_at, Purpose, for_agent, for_manager, for_nobody, over, purpose_of, target_at, EachMoment}
+use Rattle.sbp_world.proofs.Words.World.{AllElsewhere, IsManagedElsewhere, ManagedAsGot, AllNobodyElsewhere, IsNobodyElsewhere, AllElsewhereBut, IsElsewhereBut, by_purpose}
 use Rattle.sbp_journal.specs.declared.note.Note.TheVariants as notes
-use Rattle.sbp_laws.specs.CarriedBytes.{read_by}
-use Rattle.sbp_laws.specs.Packets.{answered_at}
-use Rattle.sbp_laws.specs.Targets.{Purpose, for_agent, for_manager, for_nobody, over, purpose_of, target_at}
-use Rattle.sbp_laws.specs.Turns.{EachMoment}
-use Rattle.sbp_world.specs.Lists.FedRuns.{AllElsewhere}
-use Rattle.sbp_world.specs.Lists.ManagedGots.{IsManagedElsewhere, ManagedAsGot}
-use Rattle.sbp_world.specs.Lists.NobodyGots.{AllNobodyElsewhere, IsNobodyElsewhere}
-use Rattle.sbp_world.specs.Lists.OwnSince.{AllElsewhereBut, IsElsewhereBut, by_purpose}
 
 module _ (wild : ℕ → Bool) (start : List Disk) (i slot : ℕ) (own : wild i ≡ false) where
   module _ (past : List Moment) (serial : ℕ) (managed : IsManagedElsewhere wild start past serial) where

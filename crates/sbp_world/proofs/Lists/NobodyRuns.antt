@@ -1,31 +1,12 @@
 -- In every run in which no initiator injected packets, or few logins were given, as each packet is got: what answers a request of nobody begins elsewhere than in the slot of an ORB of a list that is open.
-use Rattle.std.proofs.Common.{arith, ◌≡◌, ◌∙◌, refl, sym, ap, subst, ◌<◌, ℕ, suc, Bool, List, [], ◌∷◌, ◌++◌, length, map, Option, Some, None}
-use Rattle.rbc_disk.specs.Disk.{Disk}
-use Rattle.bus_transactions.specs.Judging.{AreJudged}
-use Rattle.sbp_journal.specs.Run.{Moment, asked, said}
-use Rattle.sbp_journal.specs.Transactions.{Sending}
-use Rattle.sbp_journal.specs.Wire.{Terms, terms}
-use Rattle.sbp_journal.specs.declared.event.Event.{Event}
-use Rattle.sbp_journal.specs.declared.note.Note.{Note}
+use Rattle.sbp_world.proofs.Words.Std.{arith, ◌≡◌, ◌∙◌, refl, sym, ap, subst, ◌<◌, ℕ, suc, Bool, List, [], ◌∷◌, ◌++◌, length, map, Option, Some, None}
+use Rattle.sbp_world.proofs.Words.Wire.{AreJudged, Moment, asked, said, Sending, Terms, terms, Event, Note}
+use Rattle.sbp_world.proofs.Words.Target.{Disk}
+use Rattle.sbp_world.proofs.Words.Laws.{injectors, sender_in, Target, for_nobody, purpose_of, target_at, EachMoment}
+use Rattle.sbp_world.proofs.Words.World.{history_of, moments_behind, Run, after, beginning, after_all, Stands, WorldState, begun, more_deliveries, AtGot, Always, AreUntaken, OpenListsLaw, Under, UnderFrom, WhereTameOrFew, AreCutOff, CutOffLaw, AllElsewhere, IsTameOrFew, NobodyAsGot, NobodyAsGotLaw}
 use Rattle.sbp_journal.specs.declared.note.Note.TheVariants as notes
-use Rattle.sbp_laws.specs.Lawful.{injectors}
-use Rattle.sbp_laws.specs.Packets.{sender_in}
-use Rattle.sbp_laws.specs.Targets.{Target, for_nobody, purpose_of, target_at}
-use Rattle.sbp_laws.specs.Turns.{EachMoment}
-use Rattle.sbp_world.specs.Histories.{history_of, moments_behind}
-use Rattle.sbp_world.specs.Runs.{Run, after, beginning}
-use Rattle.sbp_world.specs.Settling.{after_all}
-use Rattle.sbp_world.specs.Wire.Wires.{Stands}
-use Rattle.sbp_world.specs.Worlds.{WorldState, begun}
-use Rattle.sbp_world.specs.Hosts.Runs.{more_deliveries}
 use Rattle.sbp_world.proofs.Agents.Management.Holding.{past_terms}
 use Rattle.sbp_world.proofs.Agents.Management.Still.{hist}
-use Rattle.sbp_world.specs.Lists.AtGots.{AtGot}
-use Rattle.sbp_world.specs.Lists.Closes.{Always, AreUntaken, OpenListsLaw, Under, UnderFrom, WhereTameOrFew}
-use Rattle.sbp_world.specs.Lists.CutOff.{AreCutOff, CutOffLaw}
-use Rattle.sbp_world.specs.Lists.FedRuns.{AllElsewhere}
-use Rattle.sbp_world.specs.Lists.FewLogins.{IsTameOrFew}
-use Rattle.sbp_world.specs.Lists.NobodyGots.{NobodyAsGot, NobodyAsGotLaw}
 use Rattle.sbp_world.proofs.Lists.Beside.{tame_or_few_before}
 use Rattle.sbp_world.proofs.Lists.Courses.{more_than_one}
 use Rattle.sbp_world.proofs.Lists.FedOnce.{judged_everywhere}

@@ -1,17 +1,11 @@
 -- Since the response that brought the ORB of a run its list was open, and its slot had it: as it runs they are so, no ORB is appended twice, and a list that was cut stays so. So what the target got since in answer to
 -- nobody's request begins elsewhere than in that slot.
-use Rattle.std.proofs.Common.{arith, ◌≡◌, ◌∙◌, refl, sym, ap, subst, inl, inr, ◌⊎◌, ◌<◌, ◌≤◌, ℕ, suc, Bool, true, false, append_assoc, List, [], ◌∷◌, ◌++◌, Option, Some, None}
-use Rattle.rbc_disk.specs.Disk.{Disk}
-use Rattle.sbp_journal.specs.Run.{Moment, asked, said}
-use Rattle.sbp_journal.specs.Wire.{terms}
+use Rattle.sbp_world.proofs.Words.Std.{arith, ◌≡◌, ◌∙◌, refl, sym, ap, subst, inl, inr, ◌⊎◌, ◌<◌, ◌≤◌, ℕ, suc, Bool, true, false, append_assoc, List, [], ◌∷◌, ◌++◌, Option, Some, None}
+use Rattle.sbp_world.proofs.Words.Wire.{Moment, asked, said, terms}
+use Rattle.sbp_world.proofs.Words.Target.{Disk}
+use Rattle.sbp_world.proofs.Words.Laws.{orb, prepared_in, IsOpen, is_cut, answered_at, appends, lists, EachMoment}
+use Rattle.sbp_world.proofs.Words.World.{AllNobodyElsewhere, IsNobodyElsewhere, IsUnownedElsewhere, NobodyAsGot, RunIsNamed}
 use Rattle.sbp_journal.specs.declared.note.Note.TheVariants as notes
-use Rattle.sbp_laws.specs.Lists.{orb, prepared_in}
-use Rattle.sbp_laws.specs.OrderLaw.{IsOpen, is_cut}
-use Rattle.sbp_laws.specs.Packets.{answered_at}
-use Rattle.sbp_laws.specs.Terms.{appends, lists}
-use Rattle.sbp_laws.specs.Turns.{EachMoment}
-use Rattle.sbp_world.specs.Lists.NobodyGots.{AllNobodyElsewhere, IsNobodyElsewhere, IsUnownedElsewhere, NobodyAsGot}
-use Rattle.sbp_world.specs.Lists.OrbNames.{RunIsNamed}
 use Rattle.sbp_world.proofs.Lists.DataSlots.{appends_grow, prepared_below}
 use Rattle.sbp_world.proofs.Lists.Passing.{PassAt, PassLaw}
 use Rattle.sbp_world.proofs.Lists.SlotsCut.{WasPut, was_put}

@@ -1,15 +1,12 @@
 -- A request that was the main transaction of an agent and is under way still: it is that still, or its agent was put into RESET since. So what is nobody's now and is under way was of an agent that was put into RESET.
-use Rattle.std.proofs.Common.{append_assoc, ◌≡◌, ◌∙◌, refl, sym, ap, subst, inl, inr, ◌⊎◌, ℕ, false, true, List, ◌∷◌, ◌++◌, Option, Some, None}
-use Rattle.bus_transactions.specs.Packets.{SerialsCount}
-use Rattle.rbc_disk.specs.Disk.{Disk}
-use Rattle.sbp_journal.specs.Run.{Moment, asked, said}
-use Rattle.sbp_journal.specs.Transactions.{Sending}
-use Rattle.sbp_journal.specs.Wire.{Terms, terms}
+use Rattle.sbp_world.proofs.Words.Std.{append_assoc, ◌≡◌, ◌∙◌, refl, sym, ap, subst, inl, inr, ◌⊎◌, ℕ, false, true, List, ◌∷◌, ◌++◌, Option, Some, None}
+use Rattle.sbp_world.proofs.Words.Wire.{SerialsCount, Moment, asked, said, Sending, Terms, terms}
+use Rattle.sbp_world.proofs.Words.Target.{Disk}
+use Rattle.sbp_world.proofs.Words.Laws.{answered_at, is_under_way, sender_in, Target, agent_at, is_serial, over, target_at}
+use Rattle.sbp_world.proofs.Words.World.{IsClosing, IsCut, NobodyWaitsLaw, WasLetGo, WasReset}
 use Rattle.sbp_journal.specs.declared.note.Note.TheVariants as notes
-use Rattle.sbp_laws.specs.Packets.{answered_at, is_under_way, sender_in}
-use Rattle.sbp_laws.specs.Targets.{Target, agent_at, is_serial, over, target_at}
 use Rattle.sbp_world.proofs.Agents.Management.Firsts.{wire_is}
-use Rattle.sbp_world.specs.Lists.LetsGo.{IsAnswered, IsClosing, IsCut, NobodyWaitsLaw, WasClosed, WasLetGo, WasReset}
+use Rattle.sbp_world.specs.Lists.LetsGo.{IsAnswered, WasClosed}
 use Rattle.sbp_world.proofs.Lists.DataWaits.{never_again, never_late}
 use Rattle.sbp_world.proofs.Lists.MainAnswers.{was_closed}
 use Rattle.sbp_world.proofs.Lists.MainLater.{main_stays_law, somebodys}

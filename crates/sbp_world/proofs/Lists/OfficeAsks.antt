@@ -1,48 +1,26 @@
 -- Where the management of the target asks to write, and where the write that it waits for begins, over the moments of a history: as its ORBs name it, where what a reply brings to it is good.
-use Rattle.std.proofs.Common.{◌≡◌, ◌∙◌, refl, sym, ap, subst, inl, inr, ◌⊎◌, ◌==◌, not, ℕ, zero, Bool, true, false, cond, List, [], ◌∷◌, Option, Some, None, Result, Ok, Err, arith, nat_eq, nat_le, length, ◌++◌, map}
-use Rattle.std.specs.Prelude.{is_none, position, unwrap_or}
-use Rattle.std.proofs.lemmas.Option.{same_Some}
-use Rattle.label_table.specs.Bodies.{Body, block_write, block_read, quadlet_read}
-use Rattle.login_table.specs.Table.{Table}
-use Rattle.mgmt_agent.specs.declared.operation.Busy.{Busy}
-use Rattle.mgmt_agent.specs.declared.operation.Operation.{Operation}
+use Rattle.sbp_world.proofs.Words.Std.{◌≡◌, ◌∙◌, refl, sym, ap, subst, inl, inr, ◌⊎◌, ◌==◌, not, ℕ, zero, Bool, true, false, cond, List, [], ◌∷◌, Option, Some, None, Result, Ok, Err, arith, nat_eq, nat_le, length, ◌++◌, map, is_none, position, unwrap_or, same_Some}
+use Rattle.sbp_world.proofs.Words.Wire.{Body, block_write, block_read, quadlet_read, Access, Start, management_agent, no_start, register, rom_start, start_at, start_serves, Event, Note, FunctionWord, Moment, asked, said, Part, part_of, request, response, Terms, terms, largest, SerialsCount}
+use Rattle.sbp_world.proofs.Words.Target.{Table, Busy, Operation, Disk, manager_body}
+use Rattle.sbp_world.proofs.Words.Initiator.{Ask, Nothing, management_orb, offset_at, Answer, Expired, payload_of}
+use Rattle.sbp_world.proofs.Words.Laws.{access_at, access_in_bytes, answer_in, answered_at, id_for, packet_at, receiver_in, sender_in, access_in, packet_in, Decided, Target, got_by, is_serial, is_write_access, key_by, known_at, over, laws_replied, request_got, reset_seen, sent_as, sent_for, taken_on, target_at, target_by, wants, wants_it, is_nothing, event_of, EachMoment}
+use Rattle.sbp_world.proofs.Words.World.{Office, at_rest, by_managed, by_note, office_of, placed, placed_by, started, started_by, GoodIn, IsAside, IsGoodOrb, IsItsFifo, ContentAt, access_for, is_its_packet}
 use Rattle.mgmt_agent.specs.declared.operation.Phase.{Phase}
 use Rattle.mgmt_agent.specs.declared.operation.Phase.TheVariants as phases
 use Rattle.mgmt_agent.specs.Machine as management
 use Rattle.mgmt_agent.specs.Machine.{Machine}
-use Rattle.orb_layout.specs.declared.ask.Ask.{Ask}
 use Rattle.orb_layout.specs.declared.ask.Ask.TheVariants as asks
-use Rattle.orb_layout.specs.declared.ask.Ask.TheVariants.{Nothing}
-use Rattle.orb_layout.specs.ManagementOrbs.{management_orb}
-use Rattle.orb_layout.specs.Pointers.{offset_at}
-use Rattle.orb_layout.specs.Replies.{Answer, Expired, payload_of}
-use Rattle.rbc_disk.specs.Disk.{Disk}
-use Rattle.sbp_journal.specs.Addresses.{Access, Start, management_agent, no_start, register, rom_start, start_at, start_serves}
-use Rattle.sbp_journal.specs.declared.event.Event.{Event}
 use Rattle.sbp_journal.specs.declared.event.Event.TheVariants as events
-use Rattle.sbp_journal.specs.declared.note.Note.{Note}
 use Rattle.sbp_journal.specs.declared.note.Note.TheVariants as notes
-use Rattle.sbp_journal.specs.declared.operation.FunctionWord.{FunctionWord}
 use Rattle.sbp_journal.specs.declared.operation.FunctionWord.TheVariants as functions
-use Rattle.sbp_journal.specs.Run.{Moment, asked, said}
-use Rattle.sbp_journal.specs.Transactions.{Part, no_packet, part_of, request, response}
-use Rattle.sbp_journal.specs.Wire.{Terms, terms}
-use Rattle.sbp_laws.specs.Packets.{access_at, access_in_bytes, answer_in, answered_at, id_for, packet_at, receiver_in, sender_in, access_in, packet_in}
-use Rattle.sbp_laws.specs.Targets.{Decided, Target, got_by, is_serial, is_write_access, key_by, known_at, over, replied as laws_replied, request_got, reset_seen, sent_as, sent_for, taken_on, target_at, target_by, wants, wants_it, is_nothing}
-use Rattle.sbp_laws.specs.Turns.{event_of, EachMoment}
-use Rattle.sbp_world.specs.Agents.Management.Offices.{Office, at_rest, by_managed, by_note, office_of, placed, placed_by, started, started_by}
+use Rattle.sbp_journal.specs.Transactions.{no_packet}
 use Rattle.sbp_world.proofs.Agents.Management.Firsts.{other_reply, own_reply, request_keeps, served_office, start_office, wire_is}
 use Rattle.sbp_world.proofs.Agents.Management.Offices.{IsBehind, note_changes, over_keeps, taken_keeps}
-use Rattle.sbp_world.specs.Lists.OwnLogins.{GoodIn, IsAside, IsGoodOrb, IsItsFifo}
 use Rattle.sbp_world.proofs.Lists.DataDry.{reply_may}
 use Rattle.sbp_world.proofs.Lists.AgentGoes.{IsNoGot}
-use Rattle.async_packet.specs.Fields.{largest}
-use Rattle.bus_transactions.specs.Packets.{SerialsCount}
-use Rattle.sbp_target.specs.Management.{manager_body}
 use Rattle.sbp_world.proofs.Hosts.Remaining.{remains, serials_behind}
 use Rattle.sbp_world.proofs.Hosts.SentMoments.{sent_there}
-use Rattle.sbp_world.specs.Lists.Contents.{ContentAt, IsAsked, access_for}
-use Rattle.sbp_world.specs.Lists.ManagedFor.{is_its_packet}
+use Rattle.sbp_world.specs.Lists.Contents.{IsAsked}
 use Rattle.sbp_world.proofs.Lists.ContentManages.{Moves, bound, drops, its_by, keeps, moment_moves, puts}
 use Rattle.sbp_world.proofs.Lists.ManageTerms.{none_is, same_some}
 use Rattle.sbp_world.proofs.Agents.Handed.{is_its_serial}

@@ -1,33 +1,18 @@
 -- At each place of a run the management of the target, in an operation of an initiator that injected no packets, asks to write into no page table, and waits for no such write.
-use Rattle.std.proofs.Common.{arith, ◌≡◌, ◌∙◌, refl, sym, ap, subst, ◌<◌, ℕ, suc, List, [], ◌∷◌, ◌++◌, map, length, Option, Some, None, Ok, Bool, true, false}
+use Rattle.sbp_world.proofs.Words.Std.{arith, ◌≡◌, ◌∙◌, refl, sym, ap, subst, ◌<◌, ℕ, suc, List, [], ◌∷◌, ◌++◌, map, length, Option, Some, None, Ok, Bool, true, false}
+use Rattle.sbp_world.proofs.Words.Wire.{SerialsCount, IsAwaited, Moment, asked, said, Kind, Part, Sending, Transaction, asked_as, asked_by, begun_by, begun_if, between, Terms, terms, opened, Note, transaction, Event}
+use Rattle.sbp_world.proofs.Words.Target.{Operation, source_in, Disk}
+use Rattle.sbp_world.proofs.Words.Initiator.{IfShare, window_at, management_orb, Payload, payload_of, Nothing}
+use Rattle.sbp_world.proofs.Words.Laws.{answer_in, answered_at, id_for, packet_at, receiver_in, sender_in, packet_in, target_at, EachMoment}
+use Rattle.sbp_world.proofs.Words.World.{WorldState, Stands, Awaits, HasRequest, AreContents, ContentAt, AnswersAt, IsAside, IsGoodOrb, IsItsFifo, in_front, of_login, of_place, of_response, IsInAPlace, BasedAt, Office, moments_behind, ready_logins, Run, beginning, more_deliveries, AreShort, IsCalm}
 use Rattle.bus_memory.specs.declared.window.Window.TheVariants as windows
-use Rattle.bus_memory.specs.Windows.{IfShare, window_at}
 use Rattle.bus_memory.proofs.Found.{window_share}
-use Rattle.bus_transactions.specs.Packets.{SerialsCount}
-use Rattle.bus_transactions.specs.Reached.{IsAwaited}
 use Rattle.bus_transactions.proofs.Reaches.{goes_on}
-use Rattle.mgmt_agent.specs.declared.operation.Operation.{Operation}
 use Rattle.mgmt_agent.specs.declared.operation.Phase.TheVariants as phases
-use Rattle.mgmt_agent.specs.Machine.{source_in, Machine}
-use Rattle.orb_layout.specs.ManagementOrbs.{management_orb}
-use Rattle.orb_layout.specs.Replies.{Payload, payload_of}
-use Rattle.rbc_disk.specs.Disk.{Disk}
-use Rattle.sbp_journal.specs.Run.{Moment, asked, said}
-use Rattle.sbp_journal.specs.Transactions.{Kind, Part, Sending, Transaction, asked_as, asked_by, begun_by, begun_if, between}
-use Rattle.sbp_journal.specs.Wire.{Terms, terms, opened}
-use Rattle.sbp_journal.specs.declared.note.Note.{Note}
+use Rattle.mgmt_agent.specs.Machine.{Machine}
 use Rattle.sbp_journal.specs.declared.note.Note.TheVariants as notes
-use Rattle.sbp_laws.specs.Packets.{answer_in, answered_at, id_for, packet_at, receiver_in, sender_in, packet_in}
-use Rattle.sbp_laws.specs.Targets.{target_at}
-use Rattle.sbp_laws.specs.Turns.{EachMoment}
-use Rattle.sbp_world.specs.Worlds.{WorldState}
-use Rattle.sbp_world.specs.Wire.Wires.{Stands}
-use Rattle.sbp_world.specs.Agents.Management.Terms.{Awaits, HasRequest}
 use Rattle.sbp_world.proofs.Agents.Management.Holding.{Holding, past_terms, same_id}
 use Rattle.sbp_world.proofs.Agents.Management.Still.{hist}
-use Rattle.sbp_world.specs.Lists.Contents.{AreContents, ContentAt}
-use Rattle.sbp_world.specs.Lists.OrbReads.{AnswersAt}
-use Rattle.sbp_world.specs.Lists.OwnLogins.{IsAside, IsGoodOrb, IsItsFifo, in_front, of_login, of_place, of_response}
 use Rattle.sbp_world.specs.Lists.ReadOrbs.{IsAnswered}
 use Rattle.sbp_world.proofs.Lists.BufferClears.{Ground, few_of, ground_everywhere, own_at, place_window}
 use Rattle.sbp_world.proofs.Lists.BegunBy.{IsHeld, held_by}
@@ -38,18 +23,8 @@ use Rattle.sbp_world.proofs.Lists.OfficeAsks.{GotGood, HasOpOf, OfficeSo, asked_
 use Rattle.sbp_world.proofs.Lists.OwnFifos.{fifo_no_window}
 use Rattle.sbp_world.proofs.Lists.OwnOps.{IsOwnOp, answer_good, short_from}
 use Rattle.sbp_world.proofs.Lists.StoredMoments.{window_there}
-use Rattle.bus_transactions.specs.Wire.{transaction}
-use Rattle.sbp_world.specs.Lists.Placings.{IsInAPlace, BasedAt}
 use Rattle.orb_layout.specs.declared.ask.Ask.TheVariants as asks
-use Rattle.orb_layout.specs.declared.ask.Ask.TheVariants.{Nothing}
-use Rattle.sbp_journal.specs.declared.event.Event.{Event}
 use Rattle.sbp_journal.specs.declared.event.Event.TheVariants as events
-use Rattle.sbp_world.specs.Agents.Management.Offices.{Office}
-use Rattle.sbp_world.specs.Histories.{moments_behind}
-use Rattle.sbp_world.specs.Making.{ready_logins}
-use Rattle.sbp_world.specs.Runs.{Run, beginning}
-use Rattle.sbp_world.specs.Hosts.Runs.{more_deliveries}
-use Rattle.sbp_world.specs.Lists.Shorts.{AreShort}
 use Rattle.sbp_world.proofs.Agents.Management.Offices.{over_keeps}
 use Rattle.sbp_world.proofs.Hosts.SentMoments.{serials_from}
 use Rattle.sbp_world.proofs.Lists.ContentRuns.{contents_after, contents_between}
@@ -61,7 +36,6 @@ use Rattle.sbp_world.proofs.Lists.LiveRuns.{base_of, goes_calm, goes_size, goes_
 use Rattle.sbp_world.proofs.Lists.KeptTurns.{id_is}
 use Rattle.sbp_world.proofs.Lists.LiveSteps.{id_in}
 use Rattle.sbp_world.proofs.Lists.LiveTurns.{TurnOf, by_clearing, by_own, by_sight, by_target}
-use Rattle.sbp_world.specs.Lists.Needs.{IsCalm}
 use Rattle.sbp_world.proofs.Lists.ManageSends.{opened_terms}
 use Rattle.sbp_world.proofs.Lists.OwnGots.{answered_same}
 use Rattle.sbp_world.proofs.Lists.Quiet.{AllQuiet}

@@ -1,17 +1,9 @@
 -- In a run in which lists were open as they should be before, ORBs run as they were appended, and once, and end by how they ran.
-use Rattle.std.proofs.Common.{◌≡◌, ℕ, ◌<◌, ◌≤◌, List, ◌∷◌, ◌++◌, map, length, Option}
-use Rattle.rbc_disk.specs.Runs.{Told}
-use Rattle.sbp_journal.specs.declared.event.Event.{Event}
-use Rattle.sbp_journal.specs.Run.{Moment, asked, said}
-use Rattle.sbp_laws.specs.Lawful.{injectors}
-use Rattle.sbp_world.specs.Histories.{history_of}
-use Rattle.sbp_world.specs.Runs.{Run, after, beginning}
-use Rattle.sbp_world.specs.Settling.{MayAll, after_all}
-use Rattle.sbp_world.specs.Worlds.{Scene, WorldState, begun}
-use Rattle.sbp_world.specs.Agents.Management.Terms.{DeliversMore}
-use Rattle.sbp_world.specs.Hosts.Runs.{IsRun}
-use Rattle.sbp_world.specs.Lists.Needs.{OpenBefore, OpenBetween}
-use Rattle.sbp_world.specs.Lists.Running.{ListsRunLaw, RunsRunLaw}
+use Rattle.sbp_world.proofs.Words.Std.{◌≡◌, ℕ, ◌<◌, ◌≤◌, List, ◌∷◌, ◌++◌, map, length, Option}
+use Rattle.sbp_world.proofs.Words.Wire.{Event, Moment, asked, said}
+use Rattle.sbp_world.proofs.Words.Target.{Told}
+use Rattle.sbp_world.proofs.Words.Laws.{injectors}
+use Rattle.sbp_world.proofs.Words.World.{history_of, Run, after, beginning, MayAll, after_all, Scene, WorldState, begun, DeliversMore, IsRun, OpenBefore, OpenBetween, ListsRunLaw, RunsRunLaw}
 use Rattle.sbp_world.proofs.Lists.Histories.{Known, after_lines, between}
 use Rattle.sbp_world.proofs.Lists.Running.{lists_part, runs_part}
 use Rattle.sbp_world.proofs.Lists.UnrunLaws.{unrun_law}

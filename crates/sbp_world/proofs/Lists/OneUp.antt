@@ -1,37 +1,14 @@
 -- In every run in which no initiator injected packets no two agents are out of RESET of one initiator: the lists of both are its present one, or its latest one while it is ahead of
 -- the target; and one write of ORB_POINTER was for that list.
-use Rattle.std.proofs.Common.{arith, ◌≡◌, ◌∙◌, refl, sym, ap, subst, ◌<◌, ◌≤◌, ◌+◌, ℕ, suc, nat_eq, Bool, true, false, List, ◌∷◌, ◌++◌, map, length, Some, Ok}
-use Rattle.std.proofs.lemmas.Bool.Decides.{nat_tests}
-use Rattle.std.proofs.lemmas.Option.{same_Some}
-use Rattle.async_packet.specs.Packet.{Packet}
-use Rattle.async_packet.specs.Reading.{reading}
-use Rattle.rbc_disk.specs.Disk.{Disk}
-use Rattle.sbp_bus.specs.declared.places.Holder.{Holder}
-use Rattle.sbp_bus.specs.Places.{or_nobody}
-use Rattle.sbp_journal.specs.Run.{Moment, asked, said}
-use Rattle.sbp_journal.specs.Transactions.{Sending}
-use Rattle.sbp_journal.specs.Wire.{terms}
+use Rattle.sbp_world.proofs.Words.Std.{arith, ◌≡◌, ◌∙◌, refl, sym, ap, subst, ◌<◌, ◌≤◌, ◌+◌, ℕ, suc, nat_eq, Bool, true, false, List, ◌∷◌, ◌++◌, map, length, Some, Ok, nat_tests, same_Some}
+use Rattle.sbp_world.proofs.Words.Wire.{Packet, reading, Holder, or_nobody, Moment, asked, said, Sending, terms}
+use Rattle.sbp_world.proofs.Words.Target.{Disk, demand_of}
+use Rattle.sbp_world.proofs.Words.World.{WhereTameOrFew, IsCalm, history_of, after, beginning, after_all, WorldState, begun, AreHeldAt, more_deliveries, pointed_list, HaveCaught, OpenListsLaw, Under, AreApart, OneUpLaw, AreAllOpenFor, IsOpenFor, IsUp, view, AreOpened, IsOpened, holder}
 use Rattle.target_base.specs.declared.address.Access.TheVariants as accesses
-use Rattle.target_base.specs.Addresses.{demand_of}
-use Rattle.sbp_world.specs.Lists.Closes.{WhereTameOrFew}
-use Rattle.sbp_world.specs.Lists.Needs.{IsCalm}
-use Rattle.sbp_world.specs.Histories.{history_of}
-use Rattle.sbp_world.specs.Runs.{after, beginning}
-use Rattle.sbp_world.specs.Settling.{after_all}
-use Rattle.sbp_world.specs.Worlds.{WorldState, begun}
-use Rattle.sbp_world.specs.Agents.Holders.{AreHeldAt}
 use Rattle.sbp_world.proofs.Agents.Holders.{holders_between_law, holders_law}
-use Rattle.sbp_world.specs.Hosts.Runs.{more_deliveries}
 use Rattle.sbp_world.proofs.Hosts.Runs.{count_after, count_between}
-use Rattle.sbp_world.specs.Pointers.Pointers.{pointed_list}
 use Rattle.sbp_world.proofs.Pointers.Proved.{pointers_law}
-use Rattle.sbp_world.specs.Sessions.Caught.{HaveCaught}
 use Rattle.sbp_world.proofs.Sessions.Runs.{caught_between_law, caught_law}
-use Rattle.sbp_world.specs.Lists.Closes.{OpenListsLaw, Under}
-use Rattle.sbp_world.specs.Lists.OneUp.{AreApart, OneUpLaw}
-use Rattle.sbp_world.specs.Lists.Opened.{AreAllOpenFor, IsOpenFor, IsUp, view}
-use Rattle.sbp_world.specs.Lists.Opens.{AreOpened, IsOpened}
-use Rattle.sbp_world.specs.Telling.{holder}
 use Rattle.sbp_world.proofs.Lists.Courses.{more_than_one}
 use Rattle.sbp_world.proofs.Lists.ListsProved.{closing}
 use Rattle.sbp_world.proofs.Lists.LiveGiven.{ShortLaw}

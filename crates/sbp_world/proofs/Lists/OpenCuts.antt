@@ -1,47 +1,22 @@
 -- What a call of the target leaves of the places whose lists are open, where it points to none: cuts, decisions, resets and seconds. A place with an open list
 -- has a live login, and no other login that leaves or is taken back has its ID.
-use Rattle.std.proofs.Common.{arith, ◌≡◌, ◌⊎◌, inl, inr, ◌≢◌, ◌∙◌, refl, sym, ap, subst, ◌<◌, ℕ, zero, suc, ◌+◌, nat_eq, not, Bool, true, false, cond, List, [], ◌∷◌, ◌++◌, length, map, Option, Some, None}
-use Rattle.std.specs.Prelude.{slice_index_or, slice_set}
-use Rattle.std.proofs.lemmas.Bool.Decides.{nat_tests}
-use Rattle.std.proofs.Math.ListN.{length-set}
-use Rattle.std.proofs.lemmas.Bool.{false≢true}
-use Rattle.login_table.specs.declared.login.Login.{Login}
-use Rattle.login_table.specs.Sound.{IsSound}
-use Rattle.login_table.specs.Table.{is_live, place_at}
+use Rattle.sbp_world.proofs.Words.Std.{arith, ◌≡◌, ◌⊎◌, inl, inr, ◌≢◌, ◌∙◌, refl, sym, ap, subst, ◌<◌, ℕ, zero, suc, ◌+◌, nat_eq, not, Bool, true, false, cond, List, [], ◌∷◌, ◌++◌, length, map, Option, Some, None, slice_index_or, slice_set, nat_tests, length-set, false≢true}
+use Rattle.sbp_world.proofs.Words.Wire.{Holder, function_word, CutCause, Side, OutboxState, holder_at, or_nobody, Note, Moment, said}
+use Rattle.sbp_world.proofs.Words.Target.{Login, IsSound, is_live, place_at, Machine, state_in, abort_step, is_reset, reset_step, Decision, Effect, Desk, cut, cut_node, told_cut, disabled, new_desk, reset_desk, cut_placed, decided_by, effect_by, fresh_desk, left_desk, place_in, tell_failed, tell_left, NodeState, Scene, desk_at, login_at, scene, with_desk, with_side, clear_from, clear_unit, cut_all, cut_at, cut_from, is_cut}
+use Rattle.sbp_world.proofs.Words.Initiator.{FailCause}
+use Rattle.sbp_world.proofs.Words.Laws.{was_cut}
+use Rattle.sbp_world.proofs.Words.World.{told, told_all, WorldState}
 use Rattle.login_table.proofs.Searching.{within}
-use Rattle.orb_layout.specs.declared.ask.FailCause.{FailCause}
-use Rattle.command_agent.specs.Machine.{Machine, state_in}
-use Rattle.command_agent.specs.Steps.{abort_step, is_reset, reset_step}
-use Rattle.mgmt_agent.specs.declared.decision.Decision.{Decision}
-use Rattle.mgmt_agent.specs.declared.decision.Effect.{Effect}
 use Rattle.mgmt_agent.specs.declared.decision.Effect.TheVariants as effects
-use Rattle.sbp_bus.specs.declared.places.Holder.{Holder}
-use Rattle.sbp_bus.specs.Words.{function_word}
-use Rattle.sbp_journal.specs.declared.cause.CutCause.{CutCause}
 use Rattle.sbp_journal.specs.declared.cause.CutCause.TheVariants as cuts
 use Rattle.sbp_journal.specs.declared.operation.FunctionWord.TheVariants as words
-use Rattle.sbp_journal.specs.declared.side.Side.{Side}
 use Rattle.sbp_journal.specs.declared.side.Side.TheVariants as sides
-use Rattle.sbp_journal.specs.Outgoings.{OutboxState}
-use Rattle.sbp_target.specs.declared.desk.Desk.{Desk}
-use Rattle.sbp_target.specs.Agents.{cut, cut_node, told_cut}
-use Rattle.sbp_target.specs.Desks.{disabled, new_desk, reset_desk}
-use Rattle.sbp_target.specs.Management.{cut_placed, decided_by, effect_by, fresh_desk, left_desk, place_in, tell_failed, tell_left}
-use Rattle.sbp_target.specs.Nodes.{NodeState, Scene, desk_at, login_at, scene, with_desk}
-use Rattle.sbp_target.specs.Sending.{with_side}
-use Rattle.sbp_target.specs.Units.{clear_from, clear_unit, cut_all, cut_at, cut_from, is_cut}
-use Rattle.sbp_world.specs.Telling.{told, told_all}
-use Rattle.sbp_world.specs.Worlds.{WorldState}
 use Rattle.sbp_world.proofs.Agents.Granting.{IsBack}
 use Rattle.sbp_world.proofs.Agents.Sparing.{IsOld}
 use Rattle.sbp_world.proofs.Lists.SameAgents.{set_here}
 use Rattle.sbp_world.proofs.Lists.Frees.{Frees, HasHeld, HasId}
 use Rattle.sbp_world.proofs.Lists.OpenPlaces.{Has, decided_keeps, left_keeps}
 use Rattle.sbp_world.proofs.Lists.OpenSpares.{SameCuts, cut_noted}
-use Rattle.sbp_bus.specs.Places.{holder_at, or_nobody}
-use Rattle.sbp_journal.specs.declared.note.Note.{Note}
-use Rattle.sbp_journal.specs.Run.{Moment, said}
-use Rattle.sbp_laws.specs.OrderLaw.{is_cut as was_cut}
 use Rattle.sbp_world.proofs.Agents.Managed.{in_place}
 use Rattle.sbp_world.proofs.Agents.Telling.{told_snoc as told_last}
 

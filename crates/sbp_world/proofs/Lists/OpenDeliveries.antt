@@ -1,40 +1,16 @@
 -- A packet that the target gets leaves the places whose lists are open as they were, or it is a write of ORB_POINTER that opens one; and a time-out opens none.
-use Rattle.std.proofs.Common.{◌≡◌, refl, sym, subst, inl, inr, ◌⊎◌, ◌<◌, ℕ, Bool, true, false, cond, List, [], length, Option, Some, None, Result, Ok, Err}
-use Rattle.async_packet.specs.Labels.{LabelParts}
-use Rattle.async_packet.specs.Packet.{Packet, header_in}
-use Rattle.label_table.specs.Layer.{Finding, Layer, judging_step, of_again, of_generation, of_grammar, of_label, of_request, of_response}
-use Rattle.login_table.specs.declared.login.Login.{Login}
-use Rattle.orb_layout.specs.declared.ask.Ask.{Ask}
-use Rattle.orb_layout.specs.declared.pointer.OrbPointer.{OrbPointer}
-use Rattle.orb_layout.specs.Replies.{Expired}
-use Rattle.packet_store.specs.declared.sent.Sent.{Sent}
-use Rattle.rbc_disk.specs.Held.{Held}
-use Rattle.rbc_disk.specs.Runs.{Told}
-use Rattle.command_agent.specs.declared.step.PointRefusal.{PointRefusal}
-use Rattle.command_agent.specs.declared.step.Which.{Which}
-use Rattle.command_agent.specs.Steps.{point_step}
+use Rattle.sbp_world.proofs.Words.Std.{◌≡◌, refl, sym, subst, inl, inr, ◌⊎◌, ◌<◌, ℕ, Bool, true, false, cond, List, [], length, Option, Some, None, Result, Ok, Err}
+use Rattle.sbp_world.proofs.Words.Wire.{LabelParts, Packet, header_in, Finding, Layer, judging_step, of_again, of_generation, of_grammar, of_label, of_request, of_response, Sent, Judged, empty_outbox}
+use Rattle.sbp_world.proofs.Words.Target.{Login, Held, Told, PointRefusal, Which, point_step, address_error, complete, demand_of, Access, Demand, Purpose, cut, which_in, Scene, desk_at, login_at, scene, answer_in, concluded, expire_agent, expired_by, judged_scene, received, received_as, settled, timed_out, Whole, replied_by, replied_to, served_login, whole, accessed_by, answered, enabled, is_barred, point, serve, served_as, orb_of}
+use Rattle.sbp_world.proofs.Words.Initiator.{Ask, OrbPointer, Expired}
+use Rattle.sbp_world.proofs.Words.World.{whole_of, holder, WorldState}
 use Rattle.sbp_journal.specs.declared.cause.CutCause.TheVariants as cuts
 use Rattle.sbp_journal.specs.declared.cause.Cause.TheVariants as ignored
-use Rattle.sbp_journal.specs.declared.cause.Judged.{Judged}
 use Rattle.sbp_journal.specs.declared.cause.Judged.TheVariants as judgements
-use Rattle.sbp_journal.specs.Outgoings.{empty_outbox}
-use Rattle.target_base.specs.Addresses.{address_error, complete, demand_of}
-use Rattle.target_base.specs.declared.address.Access.{Access}
 use Rattle.target_base.specs.declared.address.Access.TheVariants as accesses
-use Rattle.target_base.specs.declared.address.Demand.{Demand}
 use Rattle.target_base.specs.declared.address.Demand.TheVariants as demands
-use Rattle.sbp_target.specs.declared.purpose.Purpose.{Purpose}
 use Rattle.sbp_target.specs.declared.purpose.Purpose.TheVariants as purposes
-use Rattle.sbp_target.specs.Agents.{cut}
-use Rattle.sbp_target.specs.Desks.{which_in}
-use Rattle.sbp_target.specs.Nodes.{Scene, desk_at, login_at, scene}
-use Rattle.sbp_target.specs.Receiving.{answer_in, concluded, expire_agent, expired_by, judged_scene, received, received_as, settled, timed_out}
-use Rattle.sbp_target.specs.Replies.{Whole, replied_by, replied_to, served_login, whole}
-use Rattle.sbp_target.specs.Serving.{accessed_by, answered, enabled, is_barred, point, request_step, serve, served_as}
-use Rattle.sbp_target.specs.Telling.{orb_of}
-use Rattle.sbp_world.specs.Delivering.{whole_of}
-use Rattle.sbp_world.specs.Telling.{holder}
-use Rattle.sbp_world.specs.Worlds.{WorldState}
+use Rattle.sbp_target.specs.Serving.{request_step}
 use Rattle.sbp_target.proofs.Histories.Calling.{Good}
 use Rattle.sbp_target.proofs.Histories.Following.{IsServed}
 use Rattle.sbp_target.proofs.Histories.Settled.{reaches}

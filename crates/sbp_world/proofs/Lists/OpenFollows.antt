@@ -1,30 +1,12 @@
 -- What follows a step of the agent of a place leaves who has the places, and the agents of all other places.
-use Rattle.std.proofs.Common.{◌≡◌, ◌∙◌, refl, sym, ap, subst, ◌<◌, ◌≤◌, ℕ, ◌+◌, Bool, true, false, cond, List, ◌++◌, map, length, Option, Some, None, arith}
-use Rattle.std.proofs.Math.ListN.{length-set}
-use Rattle.login_table.specs.declared.login.Login.{Login}
-use Rattle.orb_layout.specs.declared.ask.FailCause.{FailCause}
+use Rattle.sbp_world.proofs.Words.Std.{◌≡◌, ◌∙◌, refl, sym, ap, subst, ◌<◌, ◌≤◌, ℕ, ◌+◌, Bool, true, false, cond, List, ◌++◌, map, length, Option, Some, None, arith, length-set}
+use Rattle.sbp_world.proofs.Words.Wire.{Holder, OutboxState, Side, said}
+use Rattle.sbp_world.proofs.Words.Target.{Login, Outcome, AgentStep, Which, Machine, lost_step, Desk, follow, noted, lost_at, Scene, desk_at, scene, with_agent, with_side, orb_of, tell_dead, tell_ended, tell_ran, tell_step, announce_from}
+use Rattle.sbp_world.proofs.Words.Initiator.{FailCause, StatusKind}
+use Rattle.sbp_world.proofs.Words.Laws.{is_cut}
+use Rattle.sbp_world.proofs.Words.World.{told, told_all, WorldState}
 use Rattle.orb_layout.specs.declared.ask.FailCause.TheVariants as causes
-use Rattle.orb_layout.specs.declared.status.StatusKind.{StatusKind}
-use Rattle.rbc_disk.specs.declared.command.Outcome.{Outcome}
-use Rattle.command_agent.specs.declared.step.AgentStep.{AgentStep}
-use Rattle.command_agent.specs.declared.step.Which.{Which}
-use Rattle.command_agent.specs.Machine.{Machine}
-use Rattle.command_agent.specs.Steps.{lost_step}
-use Rattle.sbp_bus.specs.declared.places.Holder.{Holder}
-use Rattle.sbp_journal.specs.Outgoings.{OutboxState}
-use Rattle.sbp_journal.specs.declared.side.Side.{Side}
 use Rattle.sbp_journal.specs.declared.side.Side.TheVariants as sides
-use Rattle.sbp_target.specs.declared.desk.Desk.{Desk}
-use Rattle.sbp_target.specs.Agents.{follow, noted}
-use Rattle.sbp_target.specs.Histories.Moves.{lost_at}
-use Rattle.sbp_target.specs.Nodes.{Scene, desk_at, scene, with_agent}
-use Rattle.sbp_target.specs.Sending.{with_side}
-use Rattle.sbp_target.specs.Telling.{orb_of, tell_dead, tell_ended, tell_ran, tell_step}
-use Rattle.sbp_target.specs.Units.{announce_from}
-use Rattle.sbp_world.specs.Telling.{told, told_all}
-use Rattle.sbp_world.specs.Worlds.{WorldState}
-use Rattle.sbp_journal.specs.Run.{said}
-use Rattle.sbp_laws.specs.OrderLaw.{is_cut}
 use Rattle.sbp_world.proofs.Lists.OpenSpares.{SameCuts}
 use Rattle.sbp_world.proofs.Lists.SameAgents.{AreSame, announce_alike, follow_alike, noted_same, set_there}
 use Rattle.sbp_world.proofs.Agents.Telling.{told_snoc as told_last}

@@ -1,35 +1,16 @@
 -- A write of an initiator that injected no packets, and that the target finds new, was not taken as new before.
-use Rattle.std.proofs.Common.{arith, ◌≡◌, ◌∙◌, refl, sym, ap, subst, ◌<◌, ◌&&◌, ℕ, not, nat_eq, Bool, true, false, List, Option, Some, None, Result, Ok, Err}
-use Rattle.std.proofs.lemmas.Bool.Decides.{nat_tests}
-use Rattle.async_packet.specs.declared.fault.PacketFault.{PacketFault}
-use Rattle.async_packet.specs.Labels.{LabelParts}
-use Rattle.async_packet.specs.Packet.{Packet, header_in, lock, lock_response, read_block, read_block_response, read_quadlet, read_quadlet_response, write_block, write_quadlet, write_response}
-use Rattle.async_packet.specs.Reading.{reading}
-use Rattle.bus_transactions.specs.Wire.{Node, as_sending}
+use Rattle.sbp_world.proofs.Words.Std.{arith, ◌≡◌, ◌∙◌, refl, sym, ap, subst, ◌<◌, ◌&&◌, ℕ, not, nat_eq, Bool, true, false, List, Option, Some, None, Result, Ok, Err, nat_tests}
+use Rattle.sbp_world.proofs.Words.Wire.{PacketFault, LabelParts, Packet, header_in, lock, lock_response, read_block, read_block_response, read_quadlet, read_quadlet_response, write_block, write_quadlet, write_response, reading, Node, as_sending, Due, Remembered, place_for, seen_at, Facts, Row, by_again, by_generation, by_grammar, by_label, by_request, by_response, row_of, Layer, closed_by, facts_in, facts_of, judged_by, judging_step, of_request, responded, is_last, is_write, label_of, reply_kind, Sent, found_sent, is_flying, Stored, Access, access_of, Moment, Sending, Transaction, begun_by, between, part_by, part_of, request, writing, Terms, terms}
+use Rattle.sbp_world.proofs.Words.Laws.{access_in, access_in_bytes, spelled_by}
+use Rattle.sbp_world.proofs.Words.World.{WorldState, Stands}
 use Rattle.bus_transactions.proofs.Facts.{asked_begun, request_asked}
 use Rattle.bus_transactions.proofs.Follows.{found_kept}
 use Rattle.bus_transactions.proofs.JudgedStep.{again_at, remembered_is}
 use Rattle.bus_transactions.proofs.NodeRows.{IsNode}
 use Rattle.bus_transactions.proofs.PacketParts.{asking_read, request_read}
-use Rattle.bus_transactions.specs.Wire.{Due}
 use Rattle.bus_transactions.proofs.Reaches.{goes_on}
 use Rattle.bus_transactions.proofs.Stands.{due_transaction}
 use Rattle.bus_transactions.proofs.Ties.{is_first, tie_judged}
-use Rattle.label_table.specs.declared.source.Remembered.{Remembered}
-use Rattle.label_table.specs.Filter.{place_for, seen_at}
-use Rattle.label_table.specs.Judging.{Facts, Row, by_again, by_generation, by_grammar, by_label, by_request, by_response, row_of}
-use Rattle.label_table.specs.Layer.{Layer, closed_by, facts_in, facts_of, judged_by, judging_step, of_request, responded}
-use Rattle.label_table.specs.Requests.{is_last, is_write, label_of, reply_kind}
-use Rattle.packet_store.specs.declared.sent.Sent.{Sent}
-use Rattle.packet_store.specs.Kept.{found_sent, is_flying}
-use Rattle.packet_store.specs.Stored.{Stored}
-use Rattle.sbp_journal.specs.Addresses.{Access, access_of}
-use Rattle.sbp_journal.specs.Run.{Moment}
-use Rattle.sbp_journal.specs.Transactions.{Sending, Transaction, begun_by, between, part_by, part_of, request, writing}
-use Rattle.sbp_journal.specs.Wire.{Terms, terms}
-use Rattle.sbp_laws.specs.Packets.{access_in, access_in_bytes, spelled_by}
-use Rattle.sbp_world.specs.Worlds.{WorldState}
-use Rattle.sbp_world.specs.Wire.Wires.{Stands}
 use Rattle.sbp_world.proofs.Wire.Bus.{holds}
 use Rattle.sbp_world.proofs.Agents.Management.Holding.{past_terms, was_sent}
 use Rattle.sbp_world.proofs.Agents.Management.Still.{hist}

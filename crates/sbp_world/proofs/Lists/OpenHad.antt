@@ -1,13 +1,8 @@
 -- The lists that places had, and those that were cut: one that was cut was open at a place; and one that is open was not cut since, but at another place.
-use Rattle.std.proofs.Common.{◌≡◌, ◌⊎◌, inl, inr, ◌∙◌, sym, subst, ◌<◌, ℕ, true, List, ◌++◌, Some}
-use Rattle.sbp_bus.specs.declared.places.Holder.{Holder}
-use Rattle.sbp_bus.specs.Places.{holder_at}
-use Rattle.sbp_journal.specs.Run.{Moment}
-use Rattle.sbp_laws.specs.OrderLaw.{is_cut}
-use Rattle.sbp_world.specs.Telling.{holder}
-use Rattle.sbp_world.specs.Worlds.{WorldState}
-use Rattle.sbp_world.specs.Lists.CutLists.{WasHad}
-use Rattle.sbp_world.specs.Lists.Opens.{WasOpened}
+use Rattle.sbp_world.proofs.Words.Std.{◌≡◌, ◌⊎◌, inl, inr, ◌∙◌, sym, subst, ◌<◌, ℕ, true, List, ◌++◌, Some}
+use Rattle.sbp_world.proofs.Words.Wire.{Holder, holder_at, Moment}
+use Rattle.sbp_world.proofs.Words.Laws.{is_cut}
+use Rattle.sbp_world.proofs.Words.World.{holder, WorldState, WasHad, WasOpened}
 use Rattle.sbp_world.proofs.Lists.Later.{had_later, was_later}
 use Rattle.sbp_world.proofs.Lists.OpenCuts.{Listing}
 

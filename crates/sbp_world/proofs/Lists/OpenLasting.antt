@@ -1,29 +1,16 @@
 -- In every run with what open lists stand on, they are as the laws of lists need them.
-use Rattle.std.proofs.Common.{◌≡◌, ◌∙◌, refl, sym, ap, subst, ℕ, ◌<◌, ◌≤◌, List, [], ◌∷◌, ◌++◌, map, length, Option, Some}
-use Rattle.bus_transactions.specs.Packets.{SerialsCount}
-use Rattle.rbc_disk.specs.Disk.{Disk}
-use Rattle.rbc_disk.specs.Runs.{Told}
-use Rattle.sbp_journal.specs.declared.event.Event.{Event}
+use Rattle.sbp_world.proofs.Words.Std.{◌≡◌, ◌∙◌, refl, sym, ap, subst, ℕ, ◌<◌, ◌≤◌, List, [], ◌∷◌, ◌++◌, map, length, Option, Some}
+use Rattle.sbp_world.proofs.Words.Wire.{SerialsCount, Event, Moment, asked, said, Sending, terms}
+use Rattle.sbp_world.proofs.Words.Target.{Disk, Told}
+use Rattle.sbp_world.proofs.Words.World.{history_of, ready_logins, Run, after, beginning, MayAll, after_all, Scene, WorldState, begun, IsRun, more_deliveries, MomentsLaw, PointersLaw, CaughtBetweenLaw, CaughtLaw, AreListed, ArePlaced, ListedLaw}
 use Rattle.sbp_journal.specs.declared.note.Note.TheVariants as notes
-use Rattle.sbp_journal.specs.Run.{Moment, asked, said}
-use Rattle.sbp_journal.specs.Transactions.{Sending}
-use Rattle.sbp_journal.specs.Wire.{terms}
-use Rattle.sbp_world.specs.Histories.{history_of}
-use Rattle.sbp_world.specs.Making.{ready_logins}
-use Rattle.sbp_world.specs.Runs.{Run, after, beginning}
-use Rattle.sbp_world.specs.Settling.{MayAll, after_all}
-use Rattle.sbp_world.specs.Worlds.{Scene, WorldState, begun}
 use Rattle.sbp_world.proofs.Agents.Management.Holding.{was_sent}
 use Rattle.sbp_world.proofs.Agents.Management.Still.{hist}
 use Rattle.sbp_world.proofs.Agents.Holders.{holders_between_law, holders_law}
-use Rattle.sbp_world.specs.Hosts.Runs.{IsRun, more_deliveries}
 use Rattle.sbp_world.proofs.Hosts.Lasting.{lasting_law}
 use Rattle.sbp_world.proofs.Hosts.Remaining.{remains}
 use Rattle.sbp_world.proofs.Hosts.SentMoments.{sent_below, serials_from}
 use Rattle.sbp_world.proofs.Hosts.Runs.{count_after, count_between, run_law}
-use Rattle.sbp_world.specs.Pointers.Pointers.{MomentsLaw, PointersLaw}
-use Rattle.sbp_world.specs.Sessions.Caught.{CaughtBetweenLaw, CaughtLaw}
-use Rattle.sbp_world.specs.Lists.Places.{AreListed, ArePlaced, ListedLaw}
 use Rattle.sbp_world.proofs.Lists.OpenFresh.{never_new}
 use Rattle.sbp_world.proofs.Lists.OpenOwners.{came_from}
 use Rattle.sbp_world.proofs.Lists.OpenPointed.{AllCome, AllNew, are_listed}

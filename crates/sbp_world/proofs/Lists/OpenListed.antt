@@ -1,50 +1,22 @@
 -- The list that is open at an agent is its initiator's latest one, and no other agent has one of that initiator open.
-use Rattle.std.proofs.Common.{arith, ◌≡◌, ◌∙◌, refl, sym, ap, subst, ◌<◌, ◌≤◌, ◌+◌, ℕ, suc, nat_eq, nat_lt, Bool, true, false, cond, List, ◌∷◌, ◌++◌, length, Option, Some, None, Ok}
-use Rattle.std.proofs.lemmas.Bool.Decides.{nat_tests}
-use Rattle.std.proofs.lemmas.Bool.{false≢true}
-use Rattle.std.proofs.lemmas.Option.{same_Some}
-use Rattle.async_packet.specs.Packet.{Packet}
-use Rattle.async_packet.specs.Reading.{reading}
+use Rattle.sbp_world.proofs.Words.Std.{arith, ◌≡◌, ◌∙◌, refl, sym, ap, subst, ◌<◌, ◌≤◌, ◌+◌, ℕ, suc, nat_eq, nat_lt, Bool, true, false, cond, List, ◌∷◌, ◌++◌, length, Option, Some, None, Ok, nat_tests, false≢true, same_Some}
+use Rattle.sbp_world.proofs.Words.Wire.{Packet, reading, Holder, or_nobody, Moment, said, Sending, terms}
+use Rattle.sbp_world.proofs.Words.Target.{Disk, demand_of}
+use Rattle.sbp_world.proofs.Words.Initiator.{start, PresentList, last_at, last_in, SlotTable, slot_in, TicketParts}
+use Rattle.sbp_world.proofs.Words.Laws.{Orb, linked, list_in, orb, prepared_in, present_list, slot_at, taken_at, appends, lists, EachMoment, is_cut}
+use Rattle.sbp_world.proofs.Words.World.{holder, ticket_at, WorldState, initiator_at, AreHeldAt, HaveCaught, AreRows, IfList, terms_at, name_in, present_in, MayStand, PointersAt, pointed_list, IsCalm, IsNamed, IsOpenAt, initiator_in, is_open_at, machine_at, AreOpened, IsOpened, ArePlaced, IsNamedFor, IsPlaced, IsStanding, StandsThere, IsOfWire}
 use Rattle.bus_memory.specs.declared.window.Window.TheVariants as windows
-use Rattle.bus_memory.specs.Windows.{start}
 use Rattle.bus_memory.proofs.Found.{slot_of_law}
-use Rattle.orb_list.specs.declared.list.PresentList.{PresentList}
-use Rattle.orb_list.specs.Lists.{last_at, last_in}
-use Rattle.orb_list.specs.Table.{SlotTable, slot_in}
-use Rattle.orb_list.specs.Tickets.{TicketParts}
 use Rattle.orb_list.proofs.Tied.{waits_last}
-use Rattle.rbc_disk.specs.Disk.{Disk}
-use Rattle.sbp_bus.specs.declared.places.Holder.{Holder}
-use Rattle.sbp_bus.specs.Places.{or_nobody}
 use Rattle.sbp_bus.specs.Telling as bus
-use Rattle.sbp_journal.specs.Run.{Moment, said}
-use Rattle.sbp_journal.specs.Transactions.{Sending}
-use Rattle.sbp_journal.specs.Wire.{terms}
 use Rattle.sbp_journal.specs.declared.note.Note.TheVariants as notes
-use Rattle.sbp_laws.specs.Lists.{Orb, linked, list_in, orb, prepared_in, present_list, slot_at, taken_at}
-use Rattle.sbp_laws.specs.Terms.{appends, lists}
-use Rattle.sbp_laws.specs.Turns.{EachMoment}
-use Rattle.sbp_world.specs.Telling.{holder, ticket_at}
-use Rattle.sbp_world.specs.Worlds.{WorldState, initiator_at}
 use Rattle.target_base.specs.declared.address.Access.TheVariants as accesses
-use Rattle.target_base.specs.Addresses.{demand_of}
-use Rattle.sbp_world.specs.Agents.Holders.{AreHeldAt}
-use Rattle.sbp_world.specs.Sessions.Caught.{HaveCaught}
-use Rattle.sbp_world.specs.Hosts.Fits.{AreRows, IfList, terms_at}
-use Rattle.sbp_world.specs.Hosts.Rows.{name_in, present_in}
 use Rattle.sbp_world.proofs.Hosts.Over.{last_at as last_fits}
 use Rattle.sbp_world.proofs.Hosts.Readings.{read_law}
-use Rattle.sbp_world.specs.Pointers.Moments.{MayStand}
-use Rattle.sbp_world.specs.Pointers.Pointers.{PointersAt, pointed_list}
-use Rattle.sbp_world.specs.Lists.Needs.{IsCalm, IsNamed, IsOpenAt, initiator_in, is_open_at, machine_at}
-use Rattle.sbp_world.specs.Lists.Opens.{AreOpened, IsOpened}
-use Rattle.sbp_world.specs.Lists.Places.{ArePlaced, IsNamedFor, IsPlaced, IsStanding, StandsThere}
 use Rattle.sbp_world.proofs.Lists.OpenHad.{WereAt}
 use Rattle.sbp_world.proofs.Lists.OpenLists.{latest}
 use Rattle.sbp_world.proofs.Lists.OpenPlacing.{one_place}
 use Rattle.sbp_world.proofs.Lists.OpenUncut.{open_uncut}
-use Rattle.sbp_laws.specs.OrderLaw.{is_cut}
-use Rattle.sbp_world.specs.Wire.History.{IsOfWire}
 use Rattle.sbp_world.proofs.Lists.OpenTurns.{listing_up}
 use Rattle.sbp_world.proofs.Hosts.Cores.{not_so as up_state}
 

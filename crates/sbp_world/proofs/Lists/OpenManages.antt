@@ -1,40 +1,16 @@
 -- What the management of the target, its answers, the resets that it sees and the seconds leave of the places whose lists are open.
-use Rattle.std.proofs.Common.{arith, ◌≡◌, refl, sym, ap, subst, ◌<◌, ℕ, zero, suc, ◌+◌, Bool, true, false, cond, List, [], length, Option, Some, None, Result, Ok, Err}
-use Rattle.std.specs.Prelude.{is_none, slice_index_or}
-use Rattle.std.proofs.lemmas.List.Elements.{Contains-get_or}
+use Rattle.sbp_world.proofs.Words.Std.{arith, ◌≡◌, refl, sym, ap, subst, ◌<◌, ℕ, zero, suc, ◌+◌, Bool, true, false, cond, List, [], length, Option, Some, None, Result, Ok, Err, is_none, slice_index_or, Contains-get_or, false≢true}
+use Rattle.sbp_world.proofs.Words.Wire.{Packet, header_in, Body, Asked, Layer, answering_step, asking_step, seeing_step, Holder}
+use Rattle.sbp_world.proofs.Words.Target.{Login, IsSound, Table, expired_id, expired_ids, is_last, is_live, place_at, tick_step, Decision, Effect, ManagerStep, Busy, complete, conflict_error, Purpose, disabled, ask_manager, decided_by, failed_by, lose_operation, lost_in, manage, managed_in, managed_with, manager_asked, manager_body, manager_lost, manager_sent, with_manager, Scene, scene, after_reset, cleared_node, expired_from, held_from, reset_by, seen, tell_held, ticked, ticked_by, answer_step, answered_by, request_step, sent_by, with_side, answered, start, started_by, cut_all}
+use Rattle.sbp_world.proofs.Words.Initiator.{Ask, Answer, NoLabel}
+use Rattle.sbp_world.proofs.Words.World.{told, WorldState}
 use Rattle.std.proofs.Math.ListN.{length-map}
-use Rattle.std.proofs.lemmas.Bool.{false≢true}
-use Rattle.async_packet.specs.Packet.{Packet, header_in}
-use Rattle.label_table.specs.Bodies.{Body}
-use Rattle.label_table.specs.declared.judgement.Asked.{Asked}
-use Rattle.label_table.specs.Layer.{Layer, answering_step, asking_step, seeing_step}
-use Rattle.login_table.specs.declared.login.Login.{Login}
-use Rattle.login_table.specs.Sound.{IsSound}
-use Rattle.login_table.specs.Table.{Table, expired_id, expired_ids, is_last, is_live, place_at, tick_step}
 use Rattle.login_table.proofs.Listed.{given_from}
-use Rattle.orb_layout.specs.declared.ask.Ask.{Ask}
-use Rattle.orb_layout.specs.Replies.{Answer, NoLabel}
-use Rattle.mgmt_agent.specs.declared.decision.Decision.{Decision}
-use Rattle.mgmt_agent.specs.declared.decision.Effect.{Effect}
 use Rattle.mgmt_agent.specs.declared.decision.Effect.TheVariants as effects
-use Rattle.mgmt_agent.specs.declared.decision.ManagerStep.{ManagerStep}
-use Rattle.mgmt_agent.specs.declared.operation.Busy.{Busy}
 use Rattle.mgmt_agent.specs.Machine as management
-use Rattle.sbp_bus.specs.declared.places.Holder.{Holder}
 use Rattle.sbp_journal.specs.declared.cause.CutCause.TheVariants as cuts
 use Rattle.sbp_journal.specs.declared.side.Side.TheVariants as sides
-use Rattle.target_base.specs.Addresses.{complete, conflict_error}
-use Rattle.sbp_target.specs.declared.purpose.Purpose.{Purpose}
 use Rattle.sbp_target.specs.declared.purpose.Purpose.TheVariants as purposes
-use Rattle.sbp_target.specs.Desks.{disabled}
-use Rattle.sbp_target.specs.Management.{ask_manager, decided_by, failed_by, lose_operation, lost_in, manage, managed_in, managed_with, manager_asked, manager_body, manager_lost, manager_sent, with_manager}
-use Rattle.sbp_target.specs.Nodes.{Scene, scene}
-use Rattle.sbp_target.specs.Receiving.{after_reset, cleared_node, expired_from, held_from, reset_by, seen, tell_held, ticked, ticked_by}
-use Rattle.sbp_target.specs.Sending.{answer_step, answered_by, request_step, sent_by, with_side}
-use Rattle.sbp_target.specs.Serving.{answered, start, started_by}
-use Rattle.sbp_target.specs.Units.{cut_all}
-use Rattle.sbp_world.specs.Telling.{told}
-use Rattle.sbp_world.specs.Worlds.{WorldState}
 use Rattle.sbp_world.proofs.Agents.Granting.{reply_brings}
 use Rattle.sbp_world.proofs.Agents.Sparing.{Spares, reply_spares}
 use Rattle.sbp_world.proofs.Lists.Frees.{HasHeld, reply_frees}

@@ -1,12 +1,7 @@
 -- How often a request was taken as new never falls, and one that was got was so at least once.
-use Rattle.std.proofs.Common.{arith, ◌≡◌, ◌∙◌, ◌<◌, ◌≤◌, ◌+◌, ℕ, nat_eq, refl, sym, ap, subst, Bool, true, false, cond, List, [], ◌∷◌, ◌++◌, Option, Some, None}
-use Rattle.std.proofs.lemmas.Bool.Decides.{nat_tests}
-use Rattle.sbp_journal.specs.Run.{Moment, asked, said}
-use Rattle.sbp_journal.specs.Transactions.{Sending, Transaction, asked_by, begun_by, part_of}
-use Rattle.sbp_journal.specs.Wire.{Owed, Terms, arrives, begins, gets, gives, ignores, ignores_that, is_news, is_served, judges_if, opened, pays, puts, sends, terms, times_out}
-use Rattle.sbp_journal.specs.declared.cause.Cause.{Cause}
+use Rattle.sbp_world.proofs.Words.Std.{arith, ◌≡◌, ◌∙◌, ◌<◌, ◌≤◌, ◌+◌, ℕ, nat_eq, refl, sym, ap, subst, Bool, true, false, cond, List, [], ◌∷◌, ◌++◌, Option, Some, None, nat_tests}
+use Rattle.sbp_world.proofs.Words.Wire.{Moment, asked, said, Sending, Transaction, asked_by, begun_by, part_of, Owed, Terms, arrives, begins, gets, gives, ignores, ignores_that, is_news, is_served, judges_if, opened, pays, puts, sends, terms, times_out, Cause, Event}
 use Rattle.sbp_journal.specs.declared.cause.Cause.TheVariants as causes
-use Rattle.sbp_journal.specs.declared.event.Event.{Event}
 use Rattle.sbp_journal.specs.declared.event.Event.TheVariants as events
 use Rattle.sbp_journal.specs.declared.note.Note.TheVariants as notes
 use Rattle.sbp_world.proofs.Lists.ManageTerms.{closes_if_news, judges_news, part_news}

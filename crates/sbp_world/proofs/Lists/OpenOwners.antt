@@ -1,39 +1,17 @@
 -- Who wrote ORB_POINTER: a packet of a node that asks for a register of an agent, and is not barred, is of the initiator of the login of its place, whom the terms have there too.
-use Rattle.std.proofs.Common.{◌≡◌, ◌∙◌, refl, sym, ap, subst, ◌<◌, ◌&&◌, not, nat_eq, is_none, ℕ, suc, ◌+◌, Bool, true, false, cond, List, length, Option, Some, None, Ok, arith}
-use Rattle.std.proofs.lemmas.Bool.Decides.{nat_tests}
-use Rattle.std.proofs.lemmas.Bool.{false≢true}
-use Rattle.async_packet.specs.Packet.{Packet, header_in}
-use Rattle.async_packet.specs.Reading.{reading}
-use Rattle.bus_transactions.specs.Wire.{Node}
+use Rattle.sbp_world.proofs.Words.Std.{◌≡◌, ◌∙◌, refl, sym, ap, subst, ◌<◌, ◌&&◌, not, nat_eq, ℕ, suc, ◌+◌, Bool, true, false, cond, List, length, Option, Some, None, Ok, arith, nat_tests, false≢true}
+use Rattle.sbp_world.proofs.Words.Wire.{Packet, header_in, reading, Node, judging_step, of_request, Sent, found_sent, Moment, Terms, terms, Holder, or_nobody}
+use Rattle.sbp_world.proofs.Words.Target.{Login, Table, if_of_node, is_live, place_at, Disk, Access, AgentRegister, demand_of, is_lock, offset_in, reached, register_at, row_of, is_barred_at, NodeState, login_at, is_barred}
+use Rattle.sbp_world.proofs.Words.Laws.{term_initiator, initiator_with, node_in, over, target_at}
+use Rattle.sbp_world.proofs.Words.World.{holder, WorldState, Stands, Office, AreHeldAt}
+use Rattle.std.proofs.Common.{is_none}
 use Rattle.bus_transactions.proofs.FitJudged.{IsFoundAs, found_as}
-use Rattle.label_table.specs.Layer.{judging_step, of_request}
-use Rattle.login_table.specs.declared.login.Login.{Login}
-use Rattle.login_table.specs.Table.{Table, if_of_node, is_live, place_at}
-use Rattle.packet_store.specs.declared.sent.Sent.{Sent}
-use Rattle.packet_store.specs.Kept.{found_sent}
-use Rattle.rbc_disk.specs.Disk.{Disk}
-use Rattle.sbp_journal.specs.Run.{Moment}
-use Rattle.sbp_journal.specs.Wire.{Terms, terms}
-use Rattle.sbp_world.specs.Telling.{holder}
-use Rattle.sbp_world.specs.Worlds.{WorldState}
-use Rattle.sbp_world.specs.Wire.Wires.{Stands}
-use Rattle.sbp_bus.specs.declared.places.Holder.{Holder}
-use Rattle.sbp_bus.specs.Places.{or_nobody}
-use Rattle.target_base.specs.declared.address.Access.{Access}
 use Rattle.target_base.specs.declared.address.Demand.TheVariants as demands
-use Rattle.target_base.specs.declared.address.AgentRegister.{AgentRegister}
-use Rattle.target_base.specs.Addresses.{demand_of, is_lock, offset_in, reached, register_at, row_of}
-use Rattle.target_base.specs.Logins.{is_barred_at}
-use Rattle.sbp_laws.specs.Targets.{initiator_at as term_initiator, initiator_with, node_in, over, target_at}
-use Rattle.sbp_target.specs.Nodes.{NodeState, login_at}
-use Rattle.sbp_target.specs.Serving.{is_barred}
 use Rattle.sbp_target.proofs.Histories.Following.{IsServed}
 use Rattle.sbp_target.proofs.Reached.{demand_place}
-use Rattle.sbp_world.specs.Agents.Management.Offices.{Office}
 use Rattle.sbp_world.proofs.Agents.Management.Offices.{over_keeps}
 use Rattle.sbp_world.proofs.Agents.Management.Holding.{Holding, is_of, same_id, target_generation}
 use Rattle.sbp_world.proofs.Agents.Management.Still.{hist}
-use Rattle.sbp_world.specs.Agents.Holders.{AreHeldAt}
 
 -- the live login of a node in a place
 pub record IsOwner (node : NodeState) (place source : ℕ) : Type 0 where

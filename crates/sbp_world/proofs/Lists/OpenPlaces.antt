@@ -1,14 +1,7 @@
 -- Who has a place stays so as other logins enter, are taken back and leave; and a place whose list is opened has that list from then on.
-use Rattle.std.proofs.Common.{arith, ◌≡◌, ◌∙◌, refl, sym, ap, subst, ℕ, ◌<◌, nat_eq, Bool, true, false, cond, List, length, set, get_or-set_other, Option, Some, None}
-use Rattle.std.specs.Prelude.{position}
-use Rattle.std.proofs.lemmas.Bool.Decides.{nat_tests}
-use Rattle.std.proofs.lemmas.Grind.{common_steps, get_or-set_at}
-use Rattle.std.proofs.lemmas.List.Quantifiers.{position-Some}
-use Rattle.std.proofs.lemmas.Bool.{false≢true}
-use Rattle.sbp_bus.specs.declared.places.Holder.{Holder}
-use Rattle.sbp_bus.specs.Places.{back_at, back_step, enter_step, has_login, is_free, left_step, opened_by, opened_step, place_in, put_at, taken_by}
-use Rattle.sbp_bus.specs.Telling.{decided_places, managed_places}
-use Rattle.sbp_journal.specs.declared.operation.FunctionWord.{FunctionWord}
+use Rattle.sbp_world.proofs.Words.Std.{arith, ◌≡◌, ◌∙◌, refl, sym, ap, subst, ℕ, ◌<◌, nat_eq, Bool, true, false, cond, List, length, set, Option, Some, None, position, nat_tests, common_steps, get_or-set_at, position-Some, false≢true}
+use Rattle.sbp_world.proofs.Words.Wire.{Holder, back_at, back_step, enter_step, has_login, is_free, left_step, opened_by, opened_step, place_in, put_at, taken_by, decided_places, managed_places, FunctionWord}
+use Rattle.std.proofs.Common.{get_or-set_other}
 use Rattle.sbp_journal.specs.declared.operation.FunctionWord.TheVariants as words
 
 -- who has a place is this

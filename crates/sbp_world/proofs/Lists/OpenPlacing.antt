@@ -1,11 +1,8 @@
 -- The place of the agent whose ORB_POINTER a packet asks for.
-use Rattle.std.proofs.Common.{◌≡◌, ◌∙◌, refl, sym, ap, ℕ}
-use Rattle.std.proofs.lemmas.Option.{same_Some}
-use Rattle.async_packet.specs.Packet.{Packet}
-use Rattle.target_base.specs.declared.address.Access.{Access}
-use Rattle.target_base.specs.declared.address.AgentRegister.{AgentRegister}
+use Rattle.sbp_world.proofs.Words.Std.{◌≡◌, ◌∙◌, refl, sym, ap, ℕ, same_Some}
+use Rattle.sbp_world.proofs.Words.Wire.{Packet}
+use Rattle.sbp_world.proofs.Words.Target.{Access, AgentRegister, demand_of, reached, row_of}
 use Rattle.target_base.specs.declared.address.Demand.TheVariants as demands
-use Rattle.target_base.specs.Addresses.{demand_of, reached, row_of}
 use Rattle.sbp_target.proofs.Reached.{demand_place}
 
 -- it is one place

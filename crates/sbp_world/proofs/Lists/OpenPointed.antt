@@ -1,41 +1,13 @@
 -- A pointer that is taken is that to the first ORB of the list for which it was written, which no other agent has open.
-use Rattle.std.proofs.Common.{arith, ◌≡◌, ◌∙◌, refl, sym, ap, subst, ◌<◌, ◌≤◌, ◌+◌, ℕ, suc, nat_eq, Bool, true, false, List, ◌∷◌, ◌++◌, length, Some, Ok}
-use Rattle.std.proofs.lemmas.Bool.Decides.{nat_tests}
-use Rattle.async_packet.specs.Packet.{Packet}
-use Rattle.async_packet.specs.Reading.{reading}
-use Rattle.bus_transactions.specs.Wire.{as_sending}
-use Rattle.command_agent.specs.Steps.{point_step}
-use Rattle.label_table.specs.Layer.{judging_step, of_request}
-use Rattle.orb_layout.specs.declared.ask.Ask.{Ask}
-use Rattle.orb_layout.specs.declared.pointer.OrbPointer.{OrbPointer}
-use Rattle.packet_store.specs.declared.sent.Sent.{Sent}
-use Rattle.packet_store.specs.Kept.{found_sent}
-use Rattle.rbc_disk.specs.Disk.{Disk}
-use Rattle.sbp_bus.specs.declared.places.Holder.{Holder}
-use Rattle.sbp_bus.specs.Places.{or_nobody, place_in}
+use Rattle.sbp_world.proofs.Words.Std.{arith, ◌≡◌, ◌∙◌, refl, sym, ap, subst, ◌<◌, ◌≤◌, ◌+◌, ℕ, suc, nat_eq, Bool, true, false, List, ◌∷◌, ◌++◌, length, Some, Ok, nat_tests}
+use Rattle.sbp_world.proofs.Words.Wire.{Packet, reading, as_sending, judging_step, of_request, Sent, found_sent, Holder, or_nobody, place_in, Moment, said, Sending, part_of, request, writing, terms}
+use Rattle.sbp_world.proofs.Words.Target.{point_step, Disk, is_barred, orb_of, Access, demand_of}
+use Rattle.sbp_world.proofs.Words.Initiator.{Ask, OrbPointer}
+use Rattle.sbp_world.proofs.Words.Laws.{linked, appends, lists, EachMoment}
+use Rattle.sbp_world.proofs.Words.World.{holder, WorldState, initiator_at, AreHeldAt, HaveCaught, AreRows, MayStand, PointersAt, pointed_list, IsCalm, IsPointed, initiator_in, is_open_at, machine_at, AreOpened, IsPointedBy, ArePlaced, AreListed, IsFirst, IsStanding, IsWaiting, IsOfWire}
 use Rattle.sbp_journal.specs.declared.note.Note.TheVariants as notes
-use Rattle.sbp_journal.specs.Run.{Moment, said}
-use Rattle.sbp_journal.specs.Transactions.{Sending, part_of, request, writing}
-use Rattle.sbp_journal.specs.Wire.{terms}
-use Rattle.sbp_laws.specs.Lists.{linked}
-use Rattle.sbp_laws.specs.Terms.{appends, lists}
-use Rattle.sbp_laws.specs.Turns.{EachMoment}
-use Rattle.sbp_target.specs.Serving.{is_barred}
-use Rattle.sbp_target.specs.Telling.{orb_of}
-use Rattle.sbp_world.specs.Telling.{holder}
-use Rattle.sbp_world.specs.Worlds.{WorldState, initiator_at}
-use Rattle.target_base.specs.declared.address.Access.{Access}
 use Rattle.target_base.specs.declared.address.Access.TheVariants as accesses
 use Rattle.target_base.specs.declared.address.Demand.TheVariants as demands
-use Rattle.target_base.specs.Addresses.{demand_of}
-use Rattle.sbp_world.specs.Agents.Holders.{AreHeldAt}
-use Rattle.sbp_world.specs.Sessions.Caught.{HaveCaught}
-use Rattle.sbp_world.specs.Hosts.Fits.{AreRows}
-use Rattle.sbp_world.specs.Pointers.Moments.{MayStand}
-use Rattle.sbp_world.specs.Pointers.Pointers.{PointersAt, pointed_list}
-use Rattle.sbp_world.specs.Lists.Needs.{IsCalm, IsPointed, initiator_in, is_open_at, machine_at}
-use Rattle.sbp_world.specs.Lists.Opens.{AreOpened, IsPointedBy}
-use Rattle.sbp_world.specs.Lists.Places.{ArePlaced, AreListed, IsFirst, IsStanding, IsWaiting}
 use Rattle.sbp_world.proofs.Lists.OpenFresh.{writes_of}
 use Rattle.sbp_world.proofs.Lists.OpenListed.{for_list, is_named, one_only, open_at, opened, standing, stands_there}
 use Rattle.sbp_world.proofs.Lists.OpenLists.{latest}
@@ -44,7 +16,6 @@ use Rattle.sbp_world.proofs.Lists.OpenOwners.{owner}
 use Rattle.sbp_world.proofs.Lists.OpenHad.{WereAt}
 use Rattle.sbp_world.proofs.Lists.OpenUncut.{waits_uncut}
 use Rattle.sbp_world.proofs.Lists.OpenWorlds.{taken}
-use Rattle.sbp_world.specs.Wire.History.{IsOfWire}
 
 -- a packet that asks for a register came from the initiator of the place
 pub record HasCome (past : List Moment) (w : WorldState) (serial : ℕ) (sent : Sent) (packet : Packet) (place : ℕ) : Type 0 where

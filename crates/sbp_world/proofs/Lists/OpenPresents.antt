@@ -1,13 +1,10 @@
 -- In every run the present list of an initiator is the latest one, and its ORBs stand.
-use Rattle.std.proofs.Common.{ℕ, List}
-use Rattle.sbp_journal.specs.Run.{Moment}
-use Rattle.sbp_laws.specs.Turns.{EachMoment}
-use Rattle.sbp_initiator.specs.declared.state.InitiatorState.{InitiatorState}
-use Rattle.sbp_world.specs.Hosts.Worlds.{IsHost}
+use Rattle.sbp_world.proofs.Words.Std.{ℕ, List}
+use Rattle.sbp_world.proofs.Words.Wire.{Moment}
+use Rattle.sbp_world.proofs.Words.Initiator.{InitiatorState}
+use Rattle.sbp_world.proofs.Words.Laws.{EachMoment}
+use Rattle.sbp_world.proofs.Words.World.{IsHost, MayStand, MomentsLaw, IsPresent, PresentLaw}
 use Rattle.sbp_world.proofs.Hosts.Runs.{run_law}
-use Rattle.sbp_world.specs.Pointers.Moments.{MayStand}
-use Rattle.sbp_world.specs.Pointers.Pointers.{MomentsLaw}
-use Rattle.sbp_world.specs.Lists.Presents.{IsPresent, PresentLaw}
 use Rattle.sbp_world.proofs.Lists.OpenListed.{stands_there}
 use Rattle.sbp_world.proofs.Lists.OpenLists.{latest}
 

@@ -1,49 +1,24 @@
 -- The law of the lists that are open, of every run.
-use Rattle.std.proofs.Common.{arith, ◌≡◌, ◌∙◌, refl, sym, ap, subst, ℕ, suc, ◌+◌, ◌^◌, ◌<◌, ◌≤◌, not, Bool, true, false, List, [], ◌∷◌, ◌++◌, map, length, Option, Some, None}
-use Rattle.std.specs.Prelude.{replicate, slice_index_or}
-use Rattle.std.proofs.lemmas.List.{get_or-replicate}
-use Rattle.std.proofs.lemmas.Bool.{false≢true}
-use Rattle.bus_transactions.specs.May.{is_reset}
-use Rattle.rbc_disk.specs.Runs.{Told}
-use Rattle.sbp_bus.specs.Places.{or_nobody}
-use Rattle.sbp_bus.specs.declared.places.Holder.{Holder}
-use Rattle.sbp_journal.specs.declared.event.Event.{Event}
+use Rattle.sbp_world.proofs.Words.Std.{arith, ◌≡◌, ◌∙◌, refl, sym, ap, subst, ℕ, suc, ◌+◌, ◌^◌, ◌<◌, ◌≤◌, not, Bool, true, false, List, [], ◌∷◌, ◌++◌, map, length, Option, Some, None, slice_index_or, get_or-replicate, false≢true}
+use Rattle.sbp_world.proofs.Words.Wire.{is_reset, or_nobody, Holder, Event, Moment, asked, said}
+use Rattle.sbp_world.proofs.Words.Target.{Told, Desk, new_desk, Disk}
+use Rattle.sbp_world.proofs.Words.Laws.{OrderLaw}
+use Rattle.sbp_world.proofs.Words.World.{history_of, moments_behind, MayHappen, happens, new_world, ready_logins, AreEntries, Entry, Run, after, beginning, MayAll, after_all, holder, AreLines, Scene, WorldState, begun, initiator_at, without_notes, DeliversMore, AreAgentsAt, AreTaken, TakenListsLaw, AreRows, IsRun, more_deliveries, IsHost, IsCalm, OpenBefore, CutListsLaw, AreOpened, OpensLaw}
+use Rattle.std.specs.Prelude.{replicate}
 use Rattle.sbp_journal.specs.declared.event.Event.TheVariants as events
-use Rattle.sbp_journal.specs.Run.{Moment, asked, said}
-use Rattle.sbp_laws.specs.OrderLaw.{OrderLaw}
-use Rattle.sbp_target.specs.declared.desk.Desk.{Desk}
-use Rattle.sbp_target.specs.Desks.{new_desk}
-use Rattle.sbp_world.specs.Histories.{history_of, moments_behind}
-use Rattle.sbp_world.specs.Lines.{MayHappen, happens}
-use Rattle.sbp_world.specs.Making.{new_world, ready_logins}
-use Rattle.sbp_world.specs.Runs.{AreEntries, Entry, Run, after, beginning}
-use Rattle.sbp_world.specs.Settling.{MayAll, after_all}
-use Rattle.sbp_world.specs.Telling.{holder}
-use Rattle.sbp_world.specs.Wire.Lines.{AreLines}
-use Rattle.sbp_world.specs.Worlds.{Scene, WorldState, begun, initiator_at, without_notes}
 use Rattle.sbp_world.proofs.Wire.ToldBytes.{happened_fits}
-use Rattle.sbp_world.specs.Agents.Management.Terms.{DeliversMore}
 use Rattle.sbp_world.proofs.Agents.Management.Begins.{first_holds, first_past}
 use Rattle.sbp_world.proofs.Agents.Management.Holding.{Holding}
 use Rattle.sbp_world.proofs.Agents.Management.Lines.{all_heard as all_hold, line_holds, opens}
 use Rattle.sbp_world.proofs.Agents.Management.Runs.{no_repeats, not_reset}
 use Rattle.sbp_world.proofs.Agents.Management.Still.{hist}
-use Rattle.rbc_disk.specs.Disk.{Disk}
-use Rattle.sbp_world.specs.Agents.Agents.{AreAgentsAt}
-use Rattle.sbp_world.specs.Lists.Taken.{AreTaken, TakenListsLaw}
 use Rattle.sbp_world.proofs.Agents.CrewRuns.{agents_between_law, agents_run_law}
 use Rattle.sbp_world.proofs.Agents.Holders.{are_held, seats_after}
 use Rattle.sbp_world.proofs.Agents.Seating.{all_seats, opened}
 use Rattle.sbp_world.proofs.Agents.Seats.{Seats}
-use Rattle.sbp_world.specs.Hosts.Fits.{AreRows}
-use Rattle.sbp_world.specs.Hosts.Runs.{IsRun, more_deliveries}
-use Rattle.sbp_world.specs.Hosts.Worlds.{IsHost}
 use Rattle.sbp_world.proofs.Hosts.Runs.{count_after, count_between, run_law, are_told}
 use Rattle.sbp_world.proofs.Hosts.StepLaws.{step_law}
-use Rattle.sbp_world.specs.Lists.Needs.{IsCalm, OpenBefore}
 use Rattle.sbp_world.proofs.Lists.OpenCuts.{is_up}
-use Rattle.sbp_world.specs.Lists.CutLists.{CutListsLaw}
-use Rattle.sbp_world.specs.Lists.Opens.{AreOpened, OpensLaw}
 use Rattle.sbp_world.proofs.Lists.OpenRuns.{AllFacts, AllSo, Facts, More, all, all_heard, line_were}
 use Rattle.sbp_world.proofs.Lists.OpenWorlds.{AllTaken, AllWere}
 use Rattle.sbp_world.proofs.Lists.OpenHad.{WereAt, same_were}

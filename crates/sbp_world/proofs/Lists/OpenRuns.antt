@@ -1,40 +1,15 @@
 -- In every run the list that is open at an agent is the one that its ORB_POINTER write named.
-use Rattle.std.proofs.Common.{arith, ◌≡◌, ◌∙◌, refl, sym, ap, subst, ℕ, zero, suc, ◌<◌, ◌≤◌, ◌==◌, nat_eq, nat_lt, Bool, true, false, cond, List, [], ◌∷◌, length, Option, Some, None}
-use Rattle.std.specs.Prelude.{slice_index_or, slice_set}
-use Rattle.std.proofs.lemmas.Bool.Decides.{nat_tests}
-use Rattle.std.proofs.lemmas.Bool.{false≢true}
-use Rattle.bus_transactions.specs.May.{is_reset}
-use Rattle.packet_store.specs.declared.sent.Sent.{Sent}
-use Rattle.packet_store.specs.Kept.{found_sent}
-use Rattle.rbc_disk.specs.Disk.{Disk}
-use Rattle.rbc_disk.specs.Runs.{Told}
-use Rattle.sbp_bus.specs.declared.requests.Request.{Request}
-use Rattle.sbp_bus.specs.Packets.{end_note, judged_note, no_packet}
-use Rattle.sbp_bus.specs.Requests.{find}
-use Rattle.sbp_initiator.specs.Initiators.{new_state}
-use Rattle.sbp_initiator.specs.Receiving.{receive_step}
-use Rattle.sbp_journal.specs.declared.event.Event.{Event}
+use Rattle.sbp_world.proofs.Words.Std.{arith, ◌≡◌, ◌∙◌, refl, sym, ap, subst, ℕ, zero, suc, ◌<◌, ◌≤◌, ◌==◌, nat_eq, nat_lt, Bool, true, false, cond, List, [], ◌∷◌, length, Option, Some, None, slice_index_or, slice_set, nat_tests, false≢true}
+use Rattle.sbp_world.proofs.Words.Wire.{is_reset, Sent, found_sent, Request, end_note, judged_note, no_packet, find, Event, OutboxState, empty_outbox, Moment, asked, said, terms, Judged}
+use Rattle.sbp_world.proofs.Words.Target.{Disk, Told, NodeState, received}
+use Rattle.sbp_world.proofs.Words.Initiator.{new_state, receive_step}
+use Rattle.sbp_world.proofs.Words.Laws.{OrderLaw, list_taken, receiver_in, is_serial}
+use Rattle.sbp_world.proofs.Words.World.{Arrival, MayAt, MayReceive, MayTell, MayTold, arrived, at_target, delivered, delivered_by, initiator_received, initiators_received, marked, received_by, received_step, target_received, whole_of, with_initiators, handed_out, MayHappen, acted, happens, reset_line, see_line, MayIf, delivered_if, expires, initiator_expires, inject_line, is_in_flight, lose_line, may_repeat, refused, target_expired, timed_out, timeout_line, timeout_of, MayAll, NextMay, MayNext, after_all, delivered_at, delivered_next, is_settled, lowest, IsLine, Scene, WorldState, begun, initiator_at, with_note, with_target, without_notes, AreHeldAt, AreRows, AreAgentsAt, AreOthers}
 use Rattle.sbp_journal.specs.declared.event.Event.TheVariants as events
-use Rattle.sbp_journal.specs.Outgoings.{OutboxState, empty_outbox}
-use Rattle.sbp_journal.specs.Run.{Moment, asked, said}
-use Rattle.sbp_laws.specs.OrderLaw.{OrderLaw}
-use Rattle.sbp_target.specs.Nodes.{NodeState}
-use Rattle.sbp_target.specs.Receiving.{received}
-use Rattle.sbp_world.specs.declared.parts.delivering.Arrival.{Arrival}
-use Rattle.sbp_world.specs.Delivering.{MayAt, MayReceive, MayTell, MayTold, arrived, at_target, delivered, delivered_by, initiator_received, initiators_received, marked, received_by, received_step, target_received, whole_of, with_initiators}
-use Rattle.sbp_world.specs.Handing.{handed_out}
-use Rattle.sbp_world.specs.Lines.{MayHappen, acted, happens}
-use Rattle.sbp_world.specs.Nodes.{reset_line, see_line}
-use Rattle.sbp_world.specs.Packets.{MayIf, delivered_if, expires, initiator_expires, inject_line, is_in_flight, lose_line, may_repeat, refused, target_expired, timed_out, timeout_line, timeout_of}
 use Rattle.sbp_world.specs.Packets as packets
-use Rattle.sbp_world.specs.Settling.{MayAll, MayAt as NextMay, MayNext, after_all, delivered_at, delivered_next, is_settled, lowest}
-use Rattle.sbp_world.specs.Wire.Lines.{IsLine}
-use Rattle.sbp_world.specs.Worlds.{Scene, WorldState, begun, initiator_at, with_note, with_target, without_notes}
 use Rattle.sbp_world.proofs.Wire.Comes.{own_inside, own_outside, received_is, to_own, to_zero}
 use Rattle.sbp_world.proofs.Agents.Management.Holding.{Holding}
 use Rattle.sbp_world.proofs.Agents.Management.Still.{hist}
-use Rattle.sbp_world.specs.Agents.Holders.{AreHeldAt}
-use Rattle.sbp_world.specs.Hosts.Fits.{AreRows}
 use Rattle.sbp_world.proofs.Lists.Adds.{Stays}
 use Rattle.sbp_world.proofs.Lists.Lines.{acts, hears, injects, loses, own_lapses, own_sight, refuses, resets}
 use Rattle.sbp_world.proofs.Lists.OpenCuts.{Listing}
@@ -42,14 +17,7 @@ use Rattle.sbp_world.proofs.Lists.OpenHad.{same_were}
 use Rattle.sbp_world.proofs.Lists.OpenWorlds.{AllTaken, AllWere, delivery_taken, delivery_were, key_taken, key_were, lapse_taken, lapse_were, same_taken, sight_taken, sight_were, tick_taken, tick_were}
 use Rattle.sbp_world.proofs.Lists.SendsLast.{Led, acts as acts_led, injects as injects_led, loses as loses_led, own_hears, own_lapses as lapses_led, own_sight as sight_led, refuses as refuses_led, resets as resets_led}
 use Rattle.sbp_world.proofs.Lists.TakenTerms.{elsewhere_taken, hands_taken, led_taken}
-use Rattle.sbp_journal.specs.Wire.{terms}
-use Rattle.sbp_journal.specs.declared.cause.Judged.{Judged}
 use Rattle.sbp_journal.specs.declared.cause.Judged.TheVariants as judgements
-use Rattle.sbp_laws.specs.Agents.{list_taken}
-use Rattle.sbp_laws.specs.Packets.{receiver_in}
-use Rattle.sbp_laws.specs.Targets.{is_serial}
-use Rattle.sbp_world.specs.Agents.Agents.{AreAgentsAt}
-use Rattle.sbp_world.specs.Hosts.Handing.{AreOthers}
 use Rattle.sbp_world.proofs.Agents.Management.Holding.{was_sent}
 use Rattle.sbp_world.proofs.Hosts.Hands.{target_tells}
 use Rattle.sbp_world.proofs.Lists.Stays.{stays_end}

@@ -1,36 +1,14 @@
 -- As the target sent a read that an agent waits for, to an initiator that injected no packets, the latest list of this initiator was open: this agent alone of the initiator's was out of RESET, and the pointer that it took named the list. A turn keeps this.
-use Rattle.std.proofs.Common.{inl, inr, ◌⊎◌, arith, ◌≡◌, ◌∙◌, refl, sym, ap, subst, ◌<◌, ◌≤◌, ◌+◌, not, ℕ, suc, nat_lt, Bool, true, false, List, [], ◌∷◌, ◌++◌, map, Option, Some, None}
-use Rattle.std.proofs.lemmas.Bool.Decides.{nat_tests}
-use Rattle.command_agent.specs.declared.phase.Phase.{Phase}
-use Rattle.command_agent.specs.declared.step.Which.{Which}
-use Rattle.command_agent.specs.declared.step.Which.TheVariants.{Ahead, Main}
-use Rattle.command_agent.specs.Machine.{state_in}
-use Rattle.command_agent.specs.Steps.{is_reset}
-use Rattle.rbc_disk.specs.Disk.{Disk}
-use Rattle.sbp_journal.specs.Addresses.{Access}
-use Rattle.sbp_journal.specs.Run.{Moment, said}
-use Rattle.sbp_journal.specs.Transactions.{Sending}
-use Rattle.sbp_journal.specs.Wire.{terms}
-use Rattle.sbp_journal.specs.declared.note.Note.{Note}
+use Rattle.sbp_world.proofs.Words.Std.{inl, inr, ◌⊎◌, arith, ◌≡◌, ◌∙◌, refl, sym, ap, subst, ◌<◌, ◌≤◌, ◌+◌, not, ℕ, suc, nat_lt, Bool, true, false, List, [], ◌∷◌, ◌++◌, map, Option, Some, None, nat_tests}
+use Rattle.sbp_world.proofs.Words.Wire.{Access, Moment, said, Sending, terms, Note, SerialsCount}
+use Rattle.sbp_world.proofs.Words.Target.{Phase, Which, Ahead, Main, state_in, is_reset, Disk}
+use Rattle.sbp_world.proofs.Words.Laws.{list_taken, before_sent, open_list, access_at, access_in, packet_in, receiver_in, sender_in, Target, agent_at, term_initiator, known_at, over, target_at, lists}
+use Rattle.sbp_world.proofs.Words.World.{has_list, serial_of, agent_in, Scene, WorldState, IsCalm, IsOpenAt, initiator_in, is_open_at, machine_at, AreApart, IsUp, IsTameOrFew, AreTaken}
 use Rattle.sbp_journal.specs.declared.note.Note.TheVariants as notes
-use Rattle.sbp_laws.specs.Agents.{list_taken}
-use Rattle.sbp_laws.specs.CarriedBytes.{before_sent, open_list}
-use Rattle.sbp_laws.specs.Packets.{access_at, access_in, packet_in, receiver_in, sender_in}
-use Rattle.sbp_laws.specs.Targets.{Target, agent_at, initiator_at as term_initiator, known_at, over, target_at}
-use Rattle.sbp_laws.specs.Terms.{lists}
-use Rattle.bus_transactions.specs.Packets.{SerialsCount}
-use Rattle.sbp_world.specs.Agents.Alike.{has_list}
-use Rattle.sbp_world.specs.Agents.AskedRuns.{serial_of}
-use Rattle.sbp_world.specs.Agents.Crews.{agent_in}
-use Rattle.sbp_world.specs.Worlds.{Scene, WorldState}
 use Rattle.sbp_world.proofs.Agents.Management.Holding.{Holding}
 use Rattle.sbp_world.proofs.Agents.Management.Still.{hist}
 use Rattle.sbp_world.proofs.Hosts.Remaining.{remains}
 use Rattle.sbp_world.proofs.Hosts.SentMoments.{sent_below}
-use Rattle.sbp_world.specs.Lists.Needs.{IsCalm, IsOpenAt, initiator_in, is_open_at, machine_at}
-use Rattle.sbp_world.specs.Lists.OneUp.{AreApart}
-use Rattle.sbp_world.specs.Lists.Opened.{IsUp}
-use Rattle.sbp_world.specs.Lists.FewLogins.{IsTameOrFew}
 use Rattle.sbp_world.proofs.Lists.LiveRuns.{goes_calm}
 use Rattle.sbp_world.proofs.Lists.Awaited.{Awaits, waits_as}
 use Rattle.sbp_world.proofs.Lists.Courses.{Goes}
@@ -41,7 +19,6 @@ use Rattle.sbp_world.proofs.Lists.OpenTurns.{listing_up}
 use Rattle.sbp_world.proofs.Lists.AgentGoes.{ends_turn, note_goes, stay, then_goes}
 use Rattle.sbp_world.proofs.Lists.PointersHeld.{AllHold, Holds, are_going}
 use Rattle.sbp_world.proofs.Lists.TakenTerms.{sends_over}
-use Rattle.sbp_world.specs.Lists.Taken.{AreTaken}
 use Rattle.sbp_world.proofs.Lists.SendsLast.{AllSends}
 use Rattle.sbp_world.proofs.Lists.SendsLeave.{Leaves, SameIds, beyond_down, no_open, one_open, over_leaves, same_initiator, sends_ids, sends_leave, sends_lists, then_left}
 use Rattle.sbp_world.proofs.Lists.Sites.{Site, Waiting, waiting, who_up}

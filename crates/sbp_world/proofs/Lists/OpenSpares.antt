@@ -1,12 +1,8 @@
 -- What a note changes of the lists that were cut.
-use Rattle.std.proofs.Common.{◌≡◌, ◌⊎◌, inl, inr, refl, ℕ, nat_eq, Bool, true, false, cond, List, ◌∷◌, ◌++◌, map, Option, Some, None, arith}
-use Rattle.std.proofs.lemmas.Bool.Decides.{nat_tests}
-use Rattle.sbp_base.specs.Update.{upd2}
-use Rattle.sbp_journal.specs.declared.cause.CutCause.{CutCause}
-use Rattle.sbp_journal.specs.declared.note.Note.{Note}
+use Rattle.sbp_world.proofs.Words.Std.{◌≡◌, ◌⊎◌, inl, inr, refl, ℕ, nat_eq, Bool, true, false, cond, List, ◌∷◌, ◌++◌, map, Option, Some, None, arith, nat_tests, upd2}
+use Rattle.sbp_world.proofs.Words.Wire.{CutCause, Note, Moment, said}
+use Rattle.sbp_world.proofs.Words.Laws.{is_cut}
 use Rattle.sbp_journal.specs.declared.note.Note.TheVariants as notes
-use Rattle.sbp_journal.specs.Run.{Moment, said}
-use Rattle.sbp_laws.specs.OrderLaw.{is_cut}
 
 -- notes by which no list is cut that was not so before, whatever went before them
 abbrev pub SameCuts : List Note → List Note → Type 0

@@ -1,41 +1,13 @@
 -- A reply, a time-out, a doorbell and a write of ORB_POINTER: what each leaves of the places whose lists are open.
-use Rattle.std.proofs.Common.{◌≡◌, ◌∙◌, refl, sym, ap, subst, inl, inr, ◌⊎◌, ◌<◌, ℕ, nat_eq, Bool, true, false, cond, List, [], Option, Some, None, Result, Ok, Err, arith}
-use Rattle.std.proofs.lemmas.Bool.Decides.{nat_tests}
-use Rattle.std.proofs.Math.ListN.{length-set}
-use Rattle.std.proofs.lemmas.Bool.{false≢true}
-use Rattle.async_packet.specs.Packet.{Packet, header_in}
-use Rattle.label_table.specs.Layer.{Layer, answering_step}
-use Rattle.login_table.specs.declared.login.Login.{Login}
-use Rattle.orb_layout.specs.declared.ask.Ask.{Ask}
-use Rattle.orb_layout.specs.declared.ask.Ask.TheVariants.{Nothing}
+use Rattle.sbp_world.proofs.Words.Std.{◌≡◌, ◌∙◌, refl, sym, ap, subst, inl, inr, ◌⊎◌, ◌<◌, ℕ, nat_eq, Bool, true, false, cond, List, [], Option, Some, None, Result, Ok, Err, arith, nat_tests, length-set, false≢true}
+use Rattle.sbp_world.proofs.Words.Wire.{Packet, header_in, Layer, answering_step, Holder, list_in, empty_outbox}
+use Rattle.sbp_world.proofs.Words.Target.{Login, Disk, disk_at, Told, AgentStep, PointRefusal, Which, Machine, present_of, doorbell_step, lost_step, point_step, reply_step, Desk, Purpose, follow, pointed_desk, taken, NodeState, Scene, desk_at, login_at, scene, with_agent, with_desk, expired_by, Stage, advance, announced_by, came, changed_by, follow_all, plain_in, replied, stage, whole, answer_step, answered_by, with_side, answered, asked_in, point, pointed_by, rcode_of, ring, rung_by, orb_of, complete}
+use Rattle.sbp_world.proofs.Words.Initiator.{Ask, Nothing, OrbPointer, Answer}
+use Rattle.sbp_world.proofs.Words.World.{holder, ticket_at, told, told_all, WorldState}
 use Rattle.orb_layout.specs.declared.ask.FailCause.TheVariants as causes
-use Rattle.orb_layout.specs.declared.pointer.OrbPointer.{OrbPointer}
-use Rattle.orb_layout.specs.Replies.{Answer}
-use Rattle.rbc_disk.specs.Disk.{Disk, disk_at}
-use Rattle.rbc_disk.specs.Runs.{Told}
-use Rattle.command_agent.specs.declared.step.AgentStep.{AgentStep}
-use Rattle.command_agent.specs.declared.step.PointRefusal.{PointRefusal}
-use Rattle.command_agent.specs.declared.step.Which.{Which}
-use Rattle.command_agent.specs.Machine.{Machine, present_of}
 use Rattle.command_agent.specs.Steps as steps
-use Rattle.command_agent.specs.Steps.{doorbell_step, lost_step, point_step, reply_step}
-use Rattle.sbp_bus.specs.declared.places.Holder.{Holder}
-use Rattle.sbp_bus.specs.Telling.{list_in}
 use Rattle.sbp_journal.specs.declared.side.Side.TheVariants as sides
-use Rattle.sbp_journal.specs.Outgoings.{empty_outbox}
-use Rattle.sbp_target.specs.declared.desk.Desk.{Desk}
-use Rattle.sbp_target.specs.declared.purpose.Purpose.{Purpose}
-use Rattle.sbp_target.specs.Agents.{follow}
-use Rattle.sbp_target.specs.Desks.{pointed_desk, taken}
-use Rattle.sbp_target.specs.Nodes.{NodeState, Scene, desk_at, login_at, scene, with_agent, with_desk}
-use Rattle.sbp_target.specs.Receiving.{expired_by}
-use Rattle.sbp_target.specs.Replies.{Stage, advance, announced_by, came, changed_by, follow_all, plain_in, replied, stage, whole}
-use Rattle.sbp_target.specs.Sending.{answer_step, answered_by, with_side}
-use Rattle.sbp_target.specs.Serving.{answered, asked_at, asked_in, point, pointed_by, rcode_of, ring, rung_by}
-use Rattle.sbp_target.specs.Telling.{orb_of}
-use Rattle.target_base.specs.Addresses.{complete}
-use Rattle.sbp_world.specs.Telling.{holder, ticket_at, told, told_all}
-use Rattle.sbp_world.specs.Worlds.{WorldState}
+use Rattle.sbp_target.specs.Serving.{asked_at}
 use Rattle.sbp_target.proofs.Histories.Calling.{Good}
 use Rattle.sbp_target.proofs.Histories.Following.{IsServed}
 use Rattle.sbp_world.proofs.Agents.AskedLate.{quiet_follow}

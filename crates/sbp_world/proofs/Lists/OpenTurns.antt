@@ -1,35 +1,14 @@
 -- What a turn of the target leaves of the places whose lists are open: each was open before, and who has it is the same; or the turn is that of a
 -- write of ORB_POINTER, which opens the list of one place.
-use Rattle.std.proofs.Common.{◌≡◌, inl, ◌∙◌, refl, sym, ap, subst, ◌<◌, ◌≤◌, ℕ, nat_eq, nat_lt, not, Bool, true, false, List, length, Option, Some, None, arith}
-use Rattle.std.proofs.lemmas.Bool.Decides.{nat_tests}
-use Rattle.std.proofs.Math.ListN.{length-set}
-use Rattle.std.proofs.lemmas.Bool.{false≢true}
-use Rattle.async_packet.specs.Labels.{LabelParts}
-use Rattle.label_table.specs.Layer.{Layer}
-use Rattle.login_table.specs.declared.login.Login.{Login}
-use Rattle.login_table.specs.Sound.{IsSound}
-use Rattle.login_table.specs.Table.{is_live, place_at}
-use Rattle.orb_layout.specs.declared.ask.Ask.TheVariants.{Nothing}
-use Rattle.command_agent.specs.declared.phase.Phase.{Phase}
+use Rattle.sbp_world.proofs.Words.Std.{◌≡◌, inl, ◌∙◌, refl, sym, ap, subst, ◌<◌, ◌≤◌, ℕ, nat_eq, nat_lt, not, Bool, true, false, List, length, Option, Some, None, arith, nat_tests, length-set, false≢true}
+use Rattle.sbp_world.proofs.Words.Wire.{LabelParts, Layer, Holder, or_nobody, empty_outbox}
+use Rattle.sbp_world.proofs.Words.Target.{Login, IsSound, is_live, place_at, Phase, Which, Ahead, Main, Machine, is_ahead, is_sent, state_in, doorbell_step, is_reset, Desk, Purpose, is_that, new_desk, which_in, NodeState, Scene, desk_at, login_at, scene, with_desk, changed_by}
+use Rattle.sbp_world.proofs.Words.Initiator.{Nothing}
+use Rattle.sbp_world.proofs.Words.World.{holder, told_all, WorldState, has_list}
 use Rattle.command_agent.specs.declared.phase.Phase.TheVariants as phases
-use Rattle.command_agent.specs.declared.step.Which.{Which}
-use Rattle.command_agent.specs.declared.step.Which.TheVariants.{Ahead, Main}
-use Rattle.command_agent.specs.Machine.{Machine, is_ahead, is_sent, state_in}
-use Rattle.command_agent.specs.Steps.{doorbell_step, is_reset}
-use Rattle.sbp_bus.specs.declared.places.Holder.{Holder}
-use Rattle.sbp_bus.specs.Places.{or_nobody}
-use Rattle.sbp_journal.specs.Outgoings.{empty_outbox}
-use Rattle.sbp_target.specs.declared.desk.Desk.{Desk}
-use Rattle.sbp_target.specs.declared.purpose.Purpose.{Purpose}
-use Rattle.sbp_target.specs.Desks.{is_that, new_desk, which_in}
-use Rattle.sbp_target.specs.Nodes.{NodeState, Scene, desk_at, login_at, scene, with_desk}
-use Rattle.sbp_target.specs.Replies.{changed_by}
-use Rattle.sbp_world.specs.Telling.{holder, told_all}
-use Rattle.sbp_world.specs.Worlds.{WorldState}
 use Rattle.sbp_target.proofs.Histories.Calling.{Good, not_eight}
 use Rattle.sbp_target.proofs.Histories.Following.{IsServed}
 use Rattle.sbp_target.proofs.Histories.Stepped.{is_bare}
-use Rattle.sbp_world.specs.Agents.Alike.{has_list}
 use Rattle.sbp_world.proofs.Agents.AskedLate.{ahead_of, main_of}
 use Rattle.sbp_world.proofs.Lists.SameAgents.{AreSame, are_self, set_there}
 use Rattle.sbp_world.proofs.Lists.OpenCuts.{Here, Listing, is_up, Open, OwnsLogin}

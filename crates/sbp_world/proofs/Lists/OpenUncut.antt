@@ -1,25 +1,12 @@
 -- A list whose write of ORB_POINTER was not taken was not cut; and a list that is open was not cut: the write is got once, at one place.
-use Rattle.std.proofs.Common.{arith, ◌≡◌, ◌⊎◌, inl, inr, ◌∙◌, refl, sym, ap, subst, ◌<◌, ◌≤◌, ℕ, Bool, true, false, List, [], ◌∷◌, ◌++◌, Option, Some, None, Ok}
-use Rattle.std.proofs.lemmas.Bool.{false≢true}
-use Rattle.std.proofs.lemmas.Option.{same_Some}
-use Rattle.async_packet.specs.Packet.{Packet}
-use Rattle.async_packet.specs.Reading.{reading}
-use Rattle.bus_memory.specs.Windows.{slot_of}
-use Rattle.sbp_bus.specs.declared.places.Holder.{Holder}
+use Rattle.sbp_world.proofs.Words.Std.{arith, ◌≡◌, ◌⊎◌, inl, inr, ◌∙◌, refl, sym, ap, subst, ◌<◌, ◌≤◌, ℕ, Bool, true, false, List, [], ◌∷◌, ◌++◌, Option, Some, None, Ok, false≢true, same_Some}
+use Rattle.sbp_world.proofs.Words.Wire.{Packet, reading, Holder, Moment, said, Sending, terms}
+use Rattle.sbp_world.proofs.Words.Target.{demand_of}
+use Rattle.sbp_world.proofs.Words.Initiator.{slot_of}
+use Rattle.sbp_world.proofs.Words.Laws.{list_in, named_in, is_cut}
+use Rattle.sbp_world.proofs.Words.World.{IsOfWire, PointersAt, pointed_list, IsCalm, WasHad, IsPointedBy, WasOpened, AreNamedFor}
 use Rattle.sbp_journal.specs.declared.note.Note.TheVariants as notes
-use Rattle.sbp_journal.specs.Run.{Moment, said}
-use Rattle.sbp_journal.specs.Transactions.{Sending}
-use Rattle.sbp_journal.specs.Wire.{terms}
-use Rattle.sbp_laws.specs.Lists.{list_in, named_in}
-use Rattle.sbp_laws.specs.OrderLaw.{is_cut}
-use Rattle.sbp_world.specs.Wire.History.{IsOfWire}
 use Rattle.target_base.specs.declared.address.Access.TheVariants as accesses
-use Rattle.target_base.specs.Addresses.{demand_of}
-use Rattle.sbp_world.specs.Pointers.Pointers.{PointersAt, pointed_list}
-use Rattle.sbp_world.specs.Lists.Needs.{IsCalm}
-use Rattle.sbp_world.specs.Lists.CutLists.{WasHad}
-use Rattle.sbp_world.specs.Lists.Opens.{IsPointedBy, WasOpened}
-use Rattle.sbp_world.specs.Lists.Places.{AreNamedFor}
 use Rattle.sbp_world.proofs.Lists.OpenFresh.{writes_of}
 use Rattle.sbp_world.proofs.Lists.OpenHad.{Was, WasElse}
 use Rattle.sbp_world.proofs.Lists.OpenNews.{got_more, got_news}

@@ -1,17 +1,10 @@
 -- The history of every run, after its lines and behind each delivery of a line that may follow, is one of the wire.
-use Rattle.std.proofs.Common.{◌≡◌, subst, ℕ, ◌<◌, ◌≤◌, List, ◌∷◌, ◌++◌, map, length, Option}
-use Rattle.rbc_disk.specs.Runs.{Told}
-use Rattle.sbp_journal.specs.declared.event.Event.{Event}
-use Rattle.sbp_journal.specs.Run.{asked, said}
-use Rattle.sbp_world.specs.Histories.{history_of}
-use Rattle.sbp_world.specs.Runs.{Run, after, beginning}
-use Rattle.sbp_world.specs.Settling.{MayAll, after_all}
-use Rattle.sbp_world.specs.Worlds.{Scene, WorldState, begun}
-use Rattle.sbp_world.specs.Wire.History.{IsOfWire}
+use Rattle.sbp_world.proofs.Words.Std.{◌≡◌, subst, ℕ, ◌<◌, ◌≤◌, List, ◌∷◌, ◌++◌, map, length, Option}
+use Rattle.sbp_world.proofs.Words.Wire.{Event, asked, said}
+use Rattle.sbp_world.proofs.Words.Target.{Told}
+use Rattle.sbp_world.proofs.Words.World.{history_of, Run, after, beginning, MayAll, after_all, Scene, WorldState, begun, IsOfWire, DeliversMore, IsRun}
 use Rattle.sbp_world.proofs.Wire.Starts.{laws_of}
-use Rattle.sbp_world.specs.Agents.Management.Terms.{DeliversMore}
 use Rattle.sbp_world.proofs.Agents.Management.Still.{hist}
-use Rattle.sbp_world.specs.Hosts.Runs.{IsRun}
 use Rattle.sbp_world.proofs.Lists.OpenProved.{After, facts_at, were_after}
 
 module _ (line : ℕ) (run : Run) (r : IsRun run) (has : 0 < run.units) (small : run.units ≤ 4) (size : length run.start.disks ≡ run.units) where

@@ -1,96 +1,35 @@
 -- Whose list is open at each place, behind each turn of a world.
-use Rattle.std.proofs.Common.{arith, ◌≡◌, ◌∙◌, refl, sym, ap, subst, inl, inr, ◌⊎◌, ◌<◌, ◌||◌, not, ℕ, nat_eq, nat_lt, is_some, Bool, true, false, cond, List, [], ◌∷◌, ◌++◌, map, length, Option, Some, None, Result, Ok, Err}
-use Rattle.std.specs.Prelude.{slice_index_or}
-use Rattle.std.proofs.lemmas.Bool.Decides.{nat_tests}
-use Rattle.std.proofs.lemmas.Bool.{false≢true}
-use Rattle.async_packet.specs.Packet.{Packet}
-use Rattle.async_packet.specs.Reading.{reading}
-use Rattle.async_packet.specs.declared.fault.PacketFault.{PacketFault}
-use Rattle.label_table.specs.Layer.{Finding, Layer, expiring_step, judging_step, of_again, of_generation, of_grammar, of_label, of_request, of_response}
-use Rattle.label_table.specs.Requests.{reply_kind}
-use Rattle.label_table.specs.declared.reply.ReplyKind.{ReplyKind}
-use Rattle.sbp_journal.specs.Addresses.{access_of}
-use Rattle.sbp_journal.specs.Wire.{Terms, terms}
+use Rattle.sbp_world.proofs.Words.Std.{arith, ◌≡◌, ◌∙◌, refl, sym, ap, subst, inl, inr, ◌⊎◌, ◌<◌, ◌||◌, not, ℕ, nat_eq, nat_lt, is_some, Bool, true, false, cond, List, [], ◌∷◌, ◌++◌, map, length, Option, Some, None, Result, Ok, Err, slice_index_or, nat_tests, false≢true}
+use Rattle.sbp_world.proofs.Words.Wire.{Packet, reading, PacketFault, Finding, Layer, expiring_step, judging_step, of_again, of_generation, of_grammar, of_label, of_request, of_response, reply_kind, ReplyKind, access_of, Terms, terms, as_sending, Stale, Sent, found_sent, is_flying, deliver_step, Holder, Request, id_of, judged_note, no_packet, holder_at, or_nobody, place_in, Judged, OutboxState, empty_outbox, Moment, said}
+use Rattle.sbp_world.proofs.Words.Target.{address_error, demand_of, Demand, answered, is_barred, serve, Disk, Told, AgentState, PointRefusal, Machine, named, state_in, point_in, point_step, alone, sees, ticks, Purpose, NodeState, TargetScene, scene, expired, expired_in, judged_scene, received, received_as, with_key, with_layer, Whole, orb_of}
+use Rattle.sbp_world.proofs.Words.Initiator.{slot_of, Ask, OrbPointer, Null, At, ListState, last_at, last_in, slot_in, TicketParts, InitiatorState, new_state}
+use Rattle.sbp_world.proofs.Words.Laws.{got_in, list_taken, listed_at, listed_by, write_in, access_at, access_in, answered_at, packet_in, receiver_in, spelled_by, Target, agent_at, term_initiator, is_serial, over, target_at, list_in, named_in, is_cut}
+use Rattle.sbp_world.proofs.Words.World.{AreAgentsAt, AreOthers, marked, whole_of, handed_out, keyed, no_unit, see_line, target_sees, target_ticks, tick_line, told_seen, with_seen, refused, target_left, timed_out, holder, ticket_at, ticket_of, told_all, Scene, WorldState, initiator_at, with_note, with_target, AreHeldAt, AreRows, name_in, WasHad, WasOpened}
 use Rattle.sbp_journal.specs.declared.cause.Cause.TheVariants as ignored
-use Rattle.sbp_laws.specs.Agents.{got_in, list_taken, listed_at, listed_by, write_in}
-use Rattle.sbp_laws.specs.Packets.{access_at, access_in, answered_at, packet_in, receiver_in, spelled_by}
-use Rattle.sbp_laws.specs.Targets.{Target, agent_at, initiator_at as term_initiator, is_serial, over, target_at}
-use Rattle.target_base.specs.Addresses.{address_error, demand_of}
 use Rattle.target_base.specs.declared.address.Access as base
-use Rattle.target_base.specs.declared.address.Demand.{Demand}
 use Rattle.target_base.specs.declared.address.Demand.TheVariants as demands
-use Rattle.sbp_target.specs.Serving.{answered, is_barred, request_step, serve}
+use Rattle.sbp_target.specs.Serving.{request_step}
 use Rattle.sbp_target.proofs.Histories.Found.{IsFound, found as is_found}
-use Rattle.sbp_world.specs.Agents.Agents.{AreAgentsAt}
-use Rattle.sbp_world.specs.Hosts.Handing.{AreOthers}
 use Rattle.sbp_world.proofs.Agents.CrewFirsts.{access_there, asks_part}
 use Rattle.sbp_world.proofs.Agents.Management.Hearing.{answers_none}
 use Rattle.sbp_world.proofs.Agents.Steps.{alike_law}
 use Rattle.sbp_world.proofs.Hosts.Hands.{hand_law}
 use Rattle.sbp_world.proofs.Lists.SendsLast.{handed_quiet, others_quiet}
 use Rattle.sbp_world.proofs.Lists.TakenTerms.{answer_listed, got_taken, hands_taken, listed_for, refused_listed, response_access, taken_listed, write_listed}
-use Rattle.bus_memory.specs.Windows.{slot_of}
 use Rattle.bus_memory.proofs.Found.{slot_of_law}
-use Rattle.bus_transactions.specs.Wire.{as_sending}
-use Rattle.label_table.specs.declared.reply.Stale.{Stale}
-use Rattle.orb_layout.specs.declared.ask.Ask.{Ask}
-use Rattle.orb_layout.specs.declared.pointer.OrbPointer.{OrbPointer}
-use Rattle.orb_layout.specs.declared.pointer.OrbPointer.TheVariants.{Null, At}
-use Rattle.orb_list.specs.Lists.{ListState, last_at, last_in}
-use Rattle.orb_list.specs.Table.{slot_in}
-use Rattle.orb_list.specs.Tickets.{TicketParts}
-use Rattle.packet_store.specs.declared.sent.Sent.{Sent}
-use Rattle.packet_store.specs.Kept.{found_sent, is_flying}
-use Rattle.packet_store.specs.Stored.{deliver_step}
-use Rattle.rbc_disk.specs.Disk.{Disk}
-use Rattle.rbc_disk.specs.Runs.{Told}
-use Rattle.command_agent.specs.declared.step.AgentState.{AgentState}
 use Rattle.command_agent.specs.declared.step.AgentState.TheVariants as states
-use Rattle.command_agent.specs.declared.step.PointRefusal.{PointRefusal}
-use Rattle.command_agent.specs.Machine.{Machine, named, state_in}
-use Rattle.command_agent.specs.Steps.{point_in, point_step}
-use Rattle.sbp_bus.specs.declared.places.Holder.{Holder}
-use Rattle.sbp_bus.specs.declared.requests.Request.{Request}
-use Rattle.sbp_bus.specs.Generations.{id_of}
-use Rattle.sbp_bus.specs.Packets.{judged_note, no_packet}
-use Rattle.sbp_bus.specs.Places.{holder_at, or_nobody, place_in}
 use Rattle.sbp_bus.specs.Telling as bus
-use Rattle.sbp_initiator.specs.declared.state.InitiatorState.{InitiatorState}
-use Rattle.sbp_initiator.specs.Initiators.{new_state}
-use Rattle.sbp_journal.specs.declared.cause.Judged.{Judged}
 use Rattle.sbp_journal.specs.declared.cause.Judged.TheVariants as judgements
 use Rattle.sbp_journal.specs.declared.note.Note.TheVariants as notes
-use Rattle.sbp_journal.specs.Outgoings.{OutboxState, empty_outbox}
-use Rattle.sbp_journal.specs.Run.{Moment, said}
-use Rattle.sbp_laws.specs.Lists.{list_in, named_in}
 use Rattle.target_base.specs.declared.address.Access.TheVariants as accesses
-use Rattle.sbp_target.specs.Calls.{alone, sees, ticks}
-use Rattle.sbp_target.specs.declared.purpose.Purpose.{Purpose}
-use Rattle.sbp_target.specs.Nodes.{NodeState, Scene as TargetScene, scene}
-use Rattle.sbp_target.specs.Receiving.{expired, expired_in, judged_scene, received, received_as, with_key, with_layer}
-use Rattle.sbp_target.specs.Replies.{Whole}
-use Rattle.sbp_target.specs.Telling.{orb_of}
-use Rattle.sbp_world.specs.Delivering.{marked, whole_of}
-use Rattle.sbp_world.specs.Handing.{handed_out}
-use Rattle.sbp_world.specs.Lines.{keyed, no_unit}
-use Rattle.sbp_world.specs.Nodes.{see_line, target_sees, target_ticks, tick_line, told_seen, with_seen}
 use Rattle.sbp_world.specs.Nodes as nodes
-use Rattle.sbp_world.specs.Packets.{refused, target_left, timed_out}
 use Rattle.sbp_world.specs.Packets as packets
-use Rattle.sbp_world.specs.Telling.{holder, ticket_at, ticket_of, told_all}
-use Rattle.sbp_world.specs.Worlds.{Scene, WorldState, initiator_at, with_note, with_target}
 use Rattle.sbp_world.proofs.Wire.Nodes.{handed_alike}
 use Rattle.sbp_target.proofs.Histories.Calling.{Good}
 use Rattle.sbp_world.proofs.Agents.Management.Holding.{Holding, good_of, was_sent}
 use Rattle.sbp_world.proofs.Agents.Management.Still.{hist}
-use Rattle.sbp_world.specs.Agents.Holders.{AreHeldAt}
 use Rattle.sbp_world.proofs.Agents.Peers.{all_sent_places}
-use Rattle.sbp_world.specs.Hosts.Fits.{AreRows}
-use Rattle.sbp_world.specs.Hosts.Rows.{name_in}
 use Rattle.sbp_world.proofs.Hosts.Readings.{read_law}
-use Rattle.sbp_world.specs.Lists.CutLists.{WasHad}
-use Rattle.sbp_world.specs.Lists.Opens.{WasOpened}
-use Rattle.sbp_laws.specs.OrderLaw.{is_cut}
 use Rattle.sbp_world.proofs.Lists.Adds.{all_stay}
 use Rattle.sbp_world.proofs.Lists.Extends.{Extends, handed_extends}
 use Rattle.sbp_world.proofs.Lists.OpenCuts.{CutAt, Here, Listing, Open}

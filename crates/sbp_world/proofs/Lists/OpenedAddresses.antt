@@ -1,18 +1,12 @@
 -- Where the registers of an agent stand: that of AGENT_RESET and of AGENT_STATE at the base of an agent whose ORB_POINTER was written, and what is asked of it there.
-use Rattle.std.proofs.Common.{arith, ◌≡◌, ◌∙◌, refl, sym, ap, ◌<◌, ◌≤◌, ◌+◌, ◌-◌, ◌*◌, ◌/◌, ◌%◌, ◌==◌, ◌||◌, ℕ, nat_le, nat_lt, is_some, Bool, true, false, cond, List, length, Option, Some, None}
-use Rattle.std.proofs.lemmas.Bool.Decides.{nat_tests}
-use Rattle.std.proofs.lemmas.Bool.{false≢true}
-use Rattle.async_packet.specs.declared.packet.Header.{Header}
-use Rattle.async_packet.specs.Packet.{Packet, write_block}
-use Rattle.orb_layout.specs.declared.pointer.OrbPointer.{OrbPointer}
+use Rattle.sbp_world.proofs.Words.Std.{arith, ◌≡◌, ◌∙◌, refl, sym, ap, ◌<◌, ◌≤◌, ◌+◌, ◌-◌, ◌*◌, ◌/◌, ◌%◌, ◌==◌, ◌||◌, ℕ, nat_le, nat_lt, is_some, Bool, true, false, cond, List, length, Option, Some, None, nat_tests, false≢true}
+use Rattle.sbp_world.proofs.Words.Wire.{Header, Packet, write_block}
+use Rattle.sbp_world.proofs.Words.Target.{Asked, AgentRegister, Demand, Register, Row, accessed, accessed_at, agent_register, agents_start, by_address, by_register, by_rom, by_type, demand_by, demand_of, is_lock, is_start, length_in, management_start, offset_in, or_nowhere, reached, reads_rom, register_at, register_by, row_of, served_by, writes_rom}
+use Rattle.sbp_world.proofs.Words.Initiator.{OrbPointer}
 use Rattle.target_base.specs.declared.address.Access.TheVariants as accesses
-use Rattle.target_base.specs.declared.address.Access.{Access as Asked}
-use Rattle.target_base.specs.declared.address.AgentRegister.{AgentRegister}
-use Rattle.target_base.specs.declared.address.Demand.{Demand}
 use Rattle.target_base.specs.declared.address.Demand.TheVariants as demands
-use Rattle.target_base.specs.declared.address.Register.{Register}
 use Rattle.target_base.specs.declared.address.Register.TheVariants as registers
-use Rattle.target_base.specs.Addresses.{Row, accessed, accessed_at, agent_register, agents_start, by_address, by_register, by_rom, by_type, demand_by, demand_of, is_lock, is_start, length_in, management_start, offset_in, or_nowhere, reached, reads_rom, register_at, register_by, row_of, served, served_by, writes_rom}
+use Rattle.target_base.specs.Addresses.{served}
 use Rattle.sbp_target.proofs.Reached.{demand_place}
 
 none_some : {A : Type 0} {B : Type 0} (x : A) → None ≡ Some x → B

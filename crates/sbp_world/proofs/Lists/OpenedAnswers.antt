@@ -1,15 +1,10 @@
 -- A response behind which a transaction of an initiator with the target waits no more answers its request; and where this was a write, and the response is
 -- complete, the target had served it: neither had injected a packet.
-use Rattle.std.proofs.Common.{arith, ◌≡◌, ◌∙◌, refl, sym, ap, subst, ◌<◌, ◌==◌, ◌&&◌, ℕ, suc, not, Bool, true, false, cond, List, ◌∷◌, Option, Some, None, Ok}
-use Rattle.std.proofs.lemmas.Bool.Decides.{nat_tests}
-use Rattle.std.proofs.lemmas.Bool.{false≢true}
-use Rattle.async_packet.specs.Fields.{rcode_of}
-use Rattle.async_packet.specs.Packet.{Packet, lock, lock_response, read_block, read_block_response, read_quadlet, read_quadlet_response, write_block, write_quadlet, write_response}
-use Rattle.async_packet.specs.Reading.{reading}
-use Rattle.async_packet.specs.Spells.{Spells}
-use Rattle.bus_transactions.specs.Answers.{AnswerLaw, AnswersWaiting}
-use Rattle.bus_transactions.specs.Reached.{IsAwaited}
-use Rattle.bus_transactions.specs.Wire.{Due, as_sending, transaction}
+use Rattle.sbp_world.proofs.Words.Std.{arith, ◌≡◌, ◌∙◌, refl, sym, ap, subst, ◌<◌, ◌==◌, ◌&&◌, ℕ, suc, not, Bool, true, false, cond, List, ◌∷◌, Option, Some, None, Ok, nat_tests, false≢true}
+use Rattle.sbp_world.proofs.Words.Wire.{rcode_of, Packet, lock, lock_response, read_block, read_block_response, read_quadlet, read_quadlet_response, write_block, write_quadlet, write_response, reading, Spells, AnswerLaw, AnswersWaiting, IsAwaited, Due, as_sending, transaction, is_write, Sent, Kept, find_kept, found_sent, is_flying, Stored, Moment, said, Kind, Part, Sending, Transaction, asked_by, between, is_same, is_same_kind, part_of, request, response, Held, Terms, arrives, closes, closes_if, free, gets, gets_as, is_news, is_served, judges, rests, terms, waits, Cause}
+use Rattle.sbp_world.proofs.Words.Initiator.{ending_of}
+use Rattle.sbp_world.proofs.Words.Laws.{receiver_in}
+use Rattle.sbp_world.proofs.Words.World.{WorldState, Stands}
 use Rattle.bus_transactions.proofs.AnswerLaws.{answers_always}
 use Rattle.bus_transactions.proofs.Facts.{IsAsked}
 use Rattle.bus_transactions.proofs.FitJudged.{spelled}
@@ -18,21 +13,9 @@ use Rattle.bus_transactions.proofs.PacketParts.{same_is}
 use Rattle.bus_transactions.proofs.Reaches.{goes_on}
 use Rattle.bus_transactions.proofs.ServedFacts.{Comes, IsWrite, Served}
 use Rattle.bus_transactions.proofs.Stands.{On, due_transaction}
-use Rattle.label_table.specs.Requests.{is_write}
-use Rattle.packet_store.specs.declared.sent.Sent.{Sent}
-use Rattle.packet_store.specs.declared.sent.Kept.{Kept}
-use Rattle.packet_store.specs.Kept.{found as find_kept, found_sent, is_flying}
-use Rattle.packet_store.specs.Stored.{Stored}
 use Rattle.sbp_initiator.specs.declared.purpose.Ending.TheVariants as endings
-use Rattle.sbp_initiator.specs.States.{ending_of}
-use Rattle.sbp_journal.specs.Run.{Moment, said}
-use Rattle.sbp_journal.specs.Transactions.{Kind, Part, Sending, Transaction, asked_by, between, is_same, is_same_kind, no_packet, part_of, request, response}
-use Rattle.sbp_journal.specs.Wire.{Held, Terms, arrives, closes, closes_if, free, gets, gets_as, is_news, is_served, judges, rests, terms, waits}
-use Rattle.sbp_journal.specs.declared.cause.Cause.{Cause}
+use Rattle.sbp_journal.specs.Transactions.{no_packet}
 use Rattle.sbp_journal.specs.declared.note.Note.TheVariants as notes
-use Rattle.sbp_laws.specs.Packets.{receiver_in}
-use Rattle.sbp_world.specs.Worlds.{WorldState}
-use Rattle.sbp_world.specs.Wire.Wires.{Stands}
 use Rattle.sbp_world.proofs.Wire.Bus.{holds}
 use Rattle.sbp_world.proofs.Agents.Management.Holding.{past_terms, was_sent}
 use Rattle.sbp_world.proofs.Agents.Management.Still.{hist}

@@ -1,12 +1,8 @@
 -- Where no initiator injected packets, or few logins were given, it was so before a line, and before a delivery of it.
-use Rattle.std.proofs.Common.{◌∙◌, sym, ap, subst, ℕ, false, List, [], ◌∷◌, ◌++◌, map, Option, Some, None}
-use Rattle.rbc_disk.specs.Runs.{Told}
-use Rattle.sbp_journal.specs.declared.event.Event.{Event}
-use Rattle.sbp_journal.specs.declared.note.Note.{Note}
-use Rattle.sbp_journal.specs.Run.{Moment, asked, said}
-use Rattle.sbp_world.specs.Settling.{delivered_at, delivered_next, lowest}
-use Rattle.sbp_world.specs.Worlds.{Scene}
-use Rattle.sbp_world.specs.Lists.FewLogins.{IsTameOrFew}
+use Rattle.sbp_world.proofs.Words.Std.{◌∙◌, sym, ap, subst, ℕ, false, List, [], ◌∷◌, ◌++◌, map, Option, Some, None}
+use Rattle.sbp_world.proofs.Words.Wire.{Event, Note, Moment, asked, said}
+use Rattle.sbp_world.proofs.Words.Target.{Told}
+use Rattle.sbp_world.proofs.Words.World.{delivered_at, delivered_next, lowest, Scene, IsTameOrFew}
 use Rattle.sbp_world.proofs.Lists.Beside.{tame_or_few_before}
 use Rattle.sbp_world.proofs.Lists.Extends.{Extends, delivered_extends, extends_none}
 use Rattle.sbp_world.proofs.Common.{said_split as split}

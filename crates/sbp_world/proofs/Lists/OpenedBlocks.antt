@@ -1,34 +1,15 @@
 -- Which request drops the list of an initiator as it hears it: a status block 00 of its target alone, at an open FIFO, for the management ORB of its operation, which ends lists.
-use Rattle.std.proofs.Common.{arith, ◌≡◌, ◌∙◌, refl, sym, ap, subst, ℕ, ◌==◌, ◌&&◌, not, Bool, true, false, cond, List, Option, Some, None, Result, Ok, Err}
-use Rattle.std.proofs.lemmas.Bool.Decides.{nat_tests}
-use Rattle.std.proofs.lemmas.Bool.{not-false}
-use Rattle.async_packet.specs.declared.packet.Header.{Header}
-use Rattle.async_packet.specs.Packet.{Packet, lock, lock_response, read_block, read_block_response, read_quadlet, read_quadlet_response, write_block, write_quadlet, write_response}
-use Rattle.initiator_base.specs.declared.fifos.Fifo.{Fifo}
+use Rattle.sbp_world.proofs.Words.Std.{arith, ◌≡◌, ◌∙◌, refl, sym, ap, subst, ℕ, ◌==◌, ◌&&◌, not, Bool, true, false, cond, List, Option, Some, None, Result, Ok, Err, nat_tests, not-false}
+use Rattle.sbp_world.proofs.Words.Wire.{Header, Packet, lock, lock_response, read_block, read_block_response, read_quadlet, read_quadlet_response, write_block, write_quadlet, write_response, Finding, Layer, judging_step, of_request, empty_outbox, Judged}
+use Rattle.sbp_world.proofs.Words.Target.{is_block}
+use Rattle.sbp_world.proofs.Words.Initiator.{Fifo, OrbFault, StatusBlock, StatusKind, ListState, take_lists, TicketParts, Purpose, Running, InitiatorState, Turn, drop_where, end_step, good_end, moved, then_step, told, addressed, block_at, block_by, block_step, called, fifo_of, got_step, ignored_step, is_foreign, managed_for, present_for, quadlet_at, receive_step, received, request_step, serve_step, status_step, taken_as, ends_list, is_orb_of, is_present_orb, status_in, bad}
+use Rattle.sbp_world.proofs.Words.World.{is_open}
 use Rattle.initiator_base.specs.declared.fifos.Fifo.TheVariants as fifos
-use Rattle.label_table.specs.Layer.{Finding, Layer, judging_step, of_request}
-use Rattle.media_bay.specs.Unsolicited.{is_block}
-use Rattle.orb_layout.specs.declared.fault.OrbFault.{OrbFault}
-use Rattle.orb_layout.specs.declared.status.StatusBlock.{StatusBlock}
-use Rattle.orb_layout.specs.declared.status.StatusKind.{StatusKind}
 use Rattle.orb_layout.specs.declared.status.StatusKind.TheVariants as kinds
-use Rattle.orb_list.specs.Lists.{ListState, take_lists}
-use Rattle.orb_list.specs.Tickets.{TicketParts}
-use Rattle.sbp_initiator.specs.declared.purpose.Purpose.{Purpose}
-use Rattle.sbp_initiator.specs.declared.purpose.Running.{Running}
-use Rattle.sbp_initiator.specs.declared.state.InitiatorState.{InitiatorState}
-use Rattle.sbp_initiator.specs.Effects.{Turn, drop_where, end_step, good_end, moved, then_step, told}
-use Rattle.sbp_initiator.specs.Receiving.{addressed, block_at, block_by, block_step, called, fifo_of, got_step, ignored_step, is_foreign, managed_for, present_for, quadlet_at, receive_step, received, request_step, serve_step, status_step, taken_as}
-use Rattle.sbp_initiator.specs.Refusals.{ends_list}
-use Rattle.sbp_initiator.specs.States.{is_orb_of, is_present_orb, status_in}
-use Rattle.sbp_journal.specs.Outgoings.{empty_outbox}
 use Rattle.sbp_journal.specs.declared.cause.Cause.TheVariants as ignored
-use Rattle.sbp_journal.specs.declared.cause.Judged.{Judged}
 use Rattle.sbp_journal.specs.declared.cause.Judged.TheVariants as judgements
 use Rattle.sbp_journal.specs.declared.note.Note.TheVariants as notes
 use Rattle.sbp_journal.specs.declared.operation.OpWord.TheVariants as words
-use Rattle.sbp_session.specs.Moves.{bad}
-use Rattle.sbp_world.specs.Sessions.Entering.{is_open}
 use Rattle.sbp_world.proofs.Pointers.Dropping.{drops_of}
 use Rattle.sbp_world.proofs.Lists.ManageTerms.{none_is}
 use Rattle.sbp_world.proofs.Common.{untrue}

@@ -1,33 +1,12 @@
 -- A decision that ends the lists of a login leaves its agent in RESET: a logout and an abort of its task set, the reset of its unit, and that of the target.
-use Rattle.std.proofs.Common.{arith, ◌≡◌, ◌∙◌, refl, sym, ap, subst, ◌<◌, ◌≤◌, ◌+◌, ℕ, zero, suc, nat_eq, nat_lt, Bool, true, false, cond, List, length, Option, Some, None}
-use Rattle.std.specs.Prelude.{slice_index_or}
-use Rattle.std.proofs.lemmas.Bool.Decides.{nat_tests}
-use Rattle.std.proofs.Math.ListN.{length-set}
-use Rattle.label_table.specs.declared.judgement.Asked.{Asked}
-use Rattle.label_table.specs.Bodies.{Body}
-use Rattle.label_table.specs.Layer.{Layer, asking_step}
-use Rattle.login_table.specs.declared.login.Login.{Login}
-use Rattle.login_table.specs.Table.{Table, place_at}
-use Rattle.mgmt_agent.specs.declared.decision.Decision.{Decision}
-use Rattle.mgmt_agent.specs.declared.decision.Effect.{Effect}
+use Rattle.sbp_world.proofs.Words.Std.{arith, ◌≡◌, ◌∙◌, refl, sym, ap, subst, ◌<◌, ◌≤◌, ◌+◌, ℕ, zero, suc, nat_eq, nat_lt, Bool, true, false, cond, List, length, Option, Some, None, slice_index_or, nat_tests, length-set}
+use Rattle.sbp_world.proofs.Words.Wire.{Asked, Body, Layer, asking_step, CutCause}
+use Rattle.sbp_world.proofs.Words.Target.{Login, Table, place_at, Decision, Effect, ManagerStep, Operation, source_in, reset_step, Desk, Purpose, cut, cut_node, new_desk, reset_desk, ask_manager, cut_placed, decided_by, effect_by, failed_by, left_desk, lose_operation, lost_in, manage, managed_in, managed_with, manager_asked, manager_body, manager_sent, place_in, with_manager, Scene, desk_at, login_at, scene, request_step, sent_by, clear_from, clear_unit, cut_all, cut_at, cut_from, is_cut}
+use Rattle.sbp_world.proofs.Words.Initiator.{Ask, Answer}
 use Rattle.mgmt_agent.specs.declared.decision.Effect.TheVariants as effects
-use Rattle.mgmt_agent.specs.declared.decision.ManagerStep.{ManagerStep}
-use Rattle.mgmt_agent.specs.declared.operation.Operation.{Operation}
-use Rattle.mgmt_agent.specs.Machine.{Machine, reply_step, source_in}
-use Rattle.orb_layout.specs.declared.ask.Ask.{Ask}
-use Rattle.orb_layout.specs.Replies.{Answer}
-use Rattle.command_agent.specs.Steps.{reset_step}
-use Rattle.sbp_journal.specs.declared.cause.CutCause.{CutCause}
+use Rattle.mgmt_agent.specs.Machine.{Machine, reply_step}
 use Rattle.sbp_journal.specs.declared.cause.CutCause.TheVariants as cuts
-use Rattle.sbp_target.specs.declared.desk.Desk.{Desk}
-use Rattle.sbp_target.specs.declared.purpose.Purpose.{Purpose}
 use Rattle.sbp_target.specs.declared.purpose.Purpose.TheVariants as purposes
-use Rattle.sbp_target.specs.Agents.{cut, cut_node}
-use Rattle.sbp_target.specs.Desks.{new_desk, reset_desk}
-use Rattle.sbp_target.specs.Management.{ask_manager, cut_placed, decided_by, effect_by, failed_by, left_desk, lose_operation, lost_in, manage, managed_in, managed_with, manager_asked, manager_body, manager_sent, place_in, with_manager}
-use Rattle.sbp_target.specs.Nodes.{Scene, desk_at, login_at, scene}
-use Rattle.sbp_target.specs.Sending.{request_step, sent_by}
-use Rattle.sbp_target.specs.Units.{clear_from, clear_unit, cut_all, cut_at, cut_from, is_cut}
 use Rattle.sbp_world.proofs.Lists.SameAgents.{set_here}
 use Rattle.sbp_world.proofs.Lists.OpenCuts.{Listing, is_up, set_less}
 use Rattle.sbp_world.proofs.Lists.ManageTerms.{none_is}

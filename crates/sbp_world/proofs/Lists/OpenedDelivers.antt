@@ -1,51 +1,18 @@
 -- Which agents are out of RESET behind a turn of the target: those that were so before, of the same initiators, and one whose pointer it takes in this turn.
-use Rattle.std.proofs.Common.{arith, ◌≡◌, ◌⊎◌, inl, inr, ◌∙◌, refl, sym, ap, subst, ◌<◌, ◌||◌, ◌&&◌, not, ℕ, suc, nat_eq, nat_lt, Bool, true, false, cond, List, [], ◌∷◌, ◌++◌, map, length, Option, Some, None, Ok}
-use Rattle.std.specs.Prelude.{slice_index_or}
-use Rattle.std.proofs.lemmas.Bool.Decides.{nat_tests}
-use Rattle.std.proofs.lemmas.Bool.{false≢true}
-use Rattle.async_packet.specs.Reading.{reading}
-use Rattle.bus_memory.specs.Windows.{slot_of}
-use Rattle.bus_transactions.specs.Wire.{as_sending}
-use Rattle.orb_list.specs.Lists.{ListState, last_at}
-use Rattle.packet_store.specs.declared.sent.Sent.{Sent}
-use Rattle.packet_store.specs.Kept.{found_sent, is_flying}
-use Rattle.packet_store.specs.Stored.{deliver_step}
-use Rattle.rbc_disk.specs.Disk.{Disk}
-use Rattle.rbc_disk.specs.Runs.{Told}
-use Rattle.sbp_bus.specs.declared.places.Holder.{Holder}
-use Rattle.sbp_bus.specs.Packets.{judged_note}
-use Rattle.sbp_bus.specs.Places.{holder_at, or_nobody, place_in}
+use Rattle.sbp_world.proofs.Words.Std.{arith, ◌≡◌, ◌⊎◌, inl, inr, ◌∙◌, refl, sym, ap, subst, ◌<◌, ◌||◌, ◌&&◌, not, ℕ, suc, nat_eq, nat_lt, Bool, true, false, cond, List, [], ◌∷◌, ◌++◌, map, length, Option, Some, None, Ok, slice_index_or, nat_tests, false≢true}
+use Rattle.sbp_world.proofs.Words.Wire.{reading, as_sending, Sent, found_sent, is_flying, deliver_step, Holder, judged_note, holder_at, or_nobody, place_in, Judged, Note, OutboxState, Moment, said, Sending, terms}
+use Rattle.sbp_world.proofs.Words.Target.{Disk, Told, NodeState, scene, received, Whole, orb_of, point_step}
+use Rattle.sbp_world.proofs.Words.Initiator.{slot_of, ListState, last_at, InitiatorState, new_state}
+use Rattle.sbp_world.proofs.Words.Laws.{list_in, named_in}
+use Rattle.sbp_world.proofs.Words.World.{marked, whole_of, handed_out, holder, ticket_at, ticket_of, told_all, Scene, WorldState, initiator_at, with_note, with_target, AreHeldAt, AreRows, IsCalm, AsGot, IsUp, as_got, got_as, view, IsPointedBy}
 use Rattle.sbp_bus.specs.Telling as bus
-use Rattle.sbp_journal.specs.declared.cause.Judged.{Judged}
-use Rattle.sbp_initiator.specs.declared.state.InitiatorState.{InitiatorState}
-use Rattle.sbp_initiator.specs.Initiators.{new_state}
-use Rattle.sbp_journal.specs.declared.note.Note.{Note}
 use Rattle.sbp_journal.specs.declared.note.Note.TheVariants as notes
-use Rattle.sbp_journal.specs.Outgoings.{OutboxState}
-use Rattle.sbp_journal.specs.Run.{Moment, said}
-use Rattle.sbp_journal.specs.Transactions.{Sending}
-use Rattle.sbp_journal.specs.Wire.{terms}
-use Rattle.sbp_laws.specs.Lists.{list_in, named_in}
 use Rattle.target_base.specs.declared.address.Access.TheVariants as accesses
-use Rattle.sbp_target.specs.Nodes.{NodeState, scene}
-use Rattle.sbp_target.specs.Receiving.{received}
-use Rattle.sbp_target.specs.Replies.{Whole}
-use Rattle.sbp_target.specs.Telling.{orb_of}
-use Rattle.command_agent.specs.Steps.{point_step}
-use Rattle.sbp_world.specs.Delivering.{marked, whole_of}
-use Rattle.sbp_world.specs.Handing.{handed_out}
-use Rattle.sbp_world.specs.Telling.{holder, ticket_at, ticket_of, told_all}
-use Rattle.sbp_world.specs.Worlds.{Scene, WorldState, initiator_at, with_note, with_target}
 use Rattle.sbp_world.proofs.Wire.Nodes.{handed_alike}
 use Rattle.sbp_target.proofs.Histories.Calling.{Good}
 use Rattle.sbp_world.proofs.Agents.Management.Holding.{Holding, good_of, was_sent}
 use Rattle.sbp_world.proofs.Agents.Management.Still.{hist}
 use Rattle.sbp_world.proofs.Agents.Peers.{all_sent_places}
-use Rattle.sbp_world.specs.Agents.Holders.{AreHeldAt}
-use Rattle.sbp_world.specs.Hosts.Fits.{AreRows}
-use Rattle.sbp_world.specs.Lists.Needs.{IsCalm}
-use Rattle.sbp_world.specs.Lists.Opened.{AsGot, IsUp, as_got, got_as, view}
-use Rattle.sbp_world.specs.Lists.Opens.{IsPointedBy}
 use Rattle.sbp_world.proofs.Lists.OpenCuts.{Here, Listing, Open}
 use Rattle.sbp_world.proofs.Lists.OpenDeliveries.{Points, delivery_open}
 use Rattle.sbp_world.proofs.Lists.OpenFresh.{Writes, never_new}

@@ -1,18 +1,10 @@
 -- In a turn of others than the target a list stays the present one, where nothing drops it; and no list begins while it is the present one, nor in a
 -- generation that the target has not seen.
-use Rattle.std.proofs.Common.{arith, ◌≡◌, ◌∙◌, refl, sym, ap, subst, ◌<◌, ◌==◌, ℕ, suc, nat_eq, Bool, true, false, cond, List, [], ◌∷◌, ◌++◌, map, Some, None}
-use Rattle.std.proofs.lemmas.Bool.Decides.{nat_tests}
-use Rattle.std.proofs.lemmas.Bool.{false≢true}
-use Rattle.std.proofs.lemmas.Option.{none-some, same_Some}
-use Rattle.sbp_journal.specs.Run.{Moment, said}
-use Rattle.sbp_journal.specs.Wire.{terms}
-use Rattle.sbp_journal.specs.declared.note.Note.{Note}
+use Rattle.sbp_world.proofs.Words.Std.{arith, ◌≡◌, ◌∙◌, refl, sym, ap, subst, ◌<◌, ◌==◌, ℕ, suc, nat_eq, Bool, true, false, cond, List, [], ◌∷◌, ◌++◌, map, Some, None, nat_tests, false≢true, none-some, same_Some}
+use Rattle.sbp_world.proofs.Words.Wire.{Moment, said, terms, Note}
+use Rattle.sbp_world.proofs.Words.Laws.{present_list, lists, EachMoment}
+use Rattle.sbp_world.proofs.Words.World.{MayAppend, MayStand, turn_of, AllOf, Ends, ends_by_reset, ends_by_sight, ends_by_state, ends_by_status, EndsAt, of_rest}
 use Rattle.sbp_journal.specs.declared.note.Note.TheVariants as notes
-use Rattle.sbp_laws.specs.Lists.{present_list}
-use Rattle.sbp_laws.specs.Terms.{lists}
-use Rattle.sbp_laws.specs.Turns.{EachMoment}
-use Rattle.sbp_world.specs.Pointers.Moments.{MayAppend, MayStand, turn_of}
-use Rattle.sbp_world.specs.Lists.Opened.{AllOf, Ends, ends_by_reset, ends_by_sight, ends_by_state, ends_by_status, EndsAt, of_rest}
 use Rattle.sbp_world.proofs.Lists.Joins.{Begins}
 use Rattle.sbp_world.proofs.Lists.OpenedMoments.{all_same, all_weaker, of_others, others_rest}
 

@@ -1,31 +1,19 @@
 -- Why each list of an initiator is dropped, in every run: by the wire, the packet that brought it is one of the target, which was not judged before.
-use Rattle.std.proofs.Common.{arith, ◌≡◌, ◌∙◌, refl, sym, ap, subst, ◌<◌, not, ℕ, suc, Bool, true, false, List, [], ◌∷◌, ◌++◌, map, Option, Some}
-use Rattle.async_packet.specs.Packet.{write_block}
+use Rattle.sbp_world.proofs.Words.Std.{arith, ◌≡◌, ◌∙◌, refl, sym, ap, subst, ◌<◌, not, ℕ, suc, Bool, true, false, List, [], ◌∷◌, ◌++◌, map, Option, Some}
+use Rattle.sbp_world.proofs.Words.Wire.{write_block, Moment, asked, said, Sending, between, writing, terms}
+use Rattle.sbp_world.proofs.Words.Laws.{EachMoment}
+use Rattle.sbp_world.proofs.Words.World.{history_of, after, beginning, after_all, WorldState, begun, IsOfWire, Stands, more_deliveries, turn_of, Always, AreEnds, Ends, EndsAt, IsDoneNow, ends_by_reset, ends_by_sight, ends_by_state, ends_by_status}
 use Rattle.bus_transactions.proofs.Facts.{asked_begun, request_asked}
 use Rattle.bus_transactions.proofs.PacketParts.{part_read}
-use Rattle.sbp_journal.specs.Run.{Moment, asked, said}
-use Rattle.sbp_journal.specs.Transactions.{Sending, between, writing}
-use Rattle.sbp_journal.specs.Wire.{terms}
 use Rattle.sbp_journal.specs.declared.note.Note.TheVariants as notes
-use Rattle.sbp_laws.specs.Turns.{EachMoment}
-use Rattle.sbp_world.specs.Histories.{history_of}
-use Rattle.sbp_world.specs.Runs.{after, beginning}
-use Rattle.sbp_world.specs.Settling.{after_all}
-use Rattle.sbp_world.specs.Worlds.{WorldState, begun}
 use Rattle.sbp_world.proofs.FitInitiator.Law.{fitting_law as own_fitting_law}
 use Rattle.sbp_world.proofs.FitTarget.Law.{fitting_law}
-use Rattle.sbp_world.specs.Wire.History.{IsOfWire}
-use Rattle.sbp_world.specs.Wire.Wires.{Stands}
 use Rattle.sbp_world.proofs.Wire.Runs.{sound_after}
 use Rattle.sbp_world.proofs.Wire.Starts.{laws_of}
-use Rattle.sbp_world.specs.Hosts.Runs.{more_deliveries}
 use Rattle.sbp_world.proofs.Hosts.Carried.{stands_between}
 use Rattle.sbp_world.proofs.Hosts.Runs.{count_after, count_between}
-use Rattle.sbp_world.specs.Pointers.Moments.{turn_of}
 use Rattle.sbp_world.proofs.Pointers.Guarded.{Guarded}
 use Rattle.sbp_world.proofs.Pointers.Guarding.{first_guarded, guarded_carried, ready_known}
-use Rattle.sbp_world.specs.Lists.Closes.{Always}
-use Rattle.sbp_world.specs.Lists.Opened.{AreEnds, Ends, EndsAt, IsDoneNow, ends_by_reset, ends_by_sight, ends_by_state, ends_by_status}
 use Rattle.sbp_world.proofs.Lists.Calm.{injects_before}
 use Rattle.sbp_world.proofs.Lists.ManageKnown.{OfWire, before_it, current_of, write_of}
 use Rattle.sbp_world.proofs.Lists.ManageTerms.{got_more, got_rests}

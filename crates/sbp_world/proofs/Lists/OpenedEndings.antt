@@ -1,75 +1,29 @@
 -- As the target sends the status block 00 of an operation that ends lists no agent of its initiator is out of RESET: the ORB was decided in that turn, by a reply, and
 -- the decision put the agent of the one live login of that node into RESET.
-use Rattle.std.proofs.Common.{arith, ◌≡◌, ◌∙◌, ◌⊎◌, inl, inr, refl, sym, ap, subst, ◌<◌, ℕ, suc, ◌+◌, Bool, true, false, List, ◌∷◌, ◌++◌, length, map, Option, Some, None, Ok}
-use Rattle.std.proofs.lemmas.Bool.Decides.{nat_tests}
-use Rattle.async_packet.specs.Labels.{LabelParts}
-use Rattle.async_packet.specs.Packet.{Packet}
+use Rattle.sbp_world.proofs.Words.Std.{arith, ◌≡◌, ◌∙◌, ◌⊎◌, inl, inr, refl, sym, ap, subst, ◌<◌, ℕ, suc, ◌+◌, Bool, true, false, List, ◌∷◌, ◌++◌, length, map, Option, Some, None, Ok, nat_tests}
+use Rattle.sbp_world.proofs.Words.Wire.{LabelParts, Packet, SerialsCount, as_sending, Finding, judging_step, of_response, Sent, found_sent, Holder, GenerationsState, id_of, topology_at, judged_note, empty_outbox, Moment, said, terms, Judged, Word}
+use Rattle.sbp_world.proofs.Words.Target.{Login, Table, is_live, place_at, ManagerStep, Function, Operation, Status, decide, Does, status_block, function_of, number_of, Disk, Told, Purpose, manage, NodeState, TargetScene, scene, answer_in, concluded, received, received_as, with_layer, Whole, is_cut}
+use Rattle.sbp_world.proofs.Words.Initiator.{start_of, ManagementOrb, Payload, status_in}
+use Rattle.sbp_world.proofs.Words.Laws.{cuts_list, running_operation, Underway, host_at, is_management, id_for, Decided, decided_by, is_nothing, target_at}
+use Rattle.sbp_world.proofs.Words.World.{whole_of, holder, Scene, WorldState, AreHeldAt, Office, AreOthers, is_written, HasOne, managed_for, IsCalm, IsToldDone, IsUp, View, view}
 use Rattle.bus_memory.specs.declared.window.Window.TheVariants as windows
-use Rattle.bus_memory.specs.Windows.{start as start_of}
-use Rattle.bus_transactions.specs.Packets.{SerialsCount}
-use Rattle.bus_transactions.specs.Wire.{as_sending}
-use Rattle.label_table.specs.Layer.{Finding, judging_step, of_response}
-use Rattle.login_table.specs.declared.login.Login.{Login}
-use Rattle.login_table.specs.Table.{Table, is_live, place_at}
-use Rattle.mgmt_agent.specs.declared.decision.ManagerStep.{ManagerStep}
 use Rattle.mgmt_agent.specs.declared.decision.Outcome.{Outcome}
-use Rattle.mgmt_agent.specs.declared.function.Function.{Function}
 use Rattle.mgmt_agent.specs.declared.function.Function.TheVariants as functions
-use Rattle.mgmt_agent.specs.declared.operation.Operation.{Operation}
 use Rattle.mgmt_agent.specs.declared.operation.Phase.TheVariants as phases
-use Rattle.mgmt_agent.specs.declared.status.Status.{Status}
 use Rattle.mgmt_agent.specs.declared.status.Status.TheVariants as statuses
-use Rattle.mgmt_agent.specs.Decisions.{decide, told as told_of}
-use Rattle.mgmt_agent.specs.Effects.{Does}
-use Rattle.mgmt_agent.specs.Machine.{Machine, reply_step, status_block}
-use Rattle.mgmt_agent.specs.Statuses.{function_of, number_of}
+use Rattle.mgmt_agent.specs.Decisions.{told as told_of}
+use Rattle.mgmt_agent.specs.Machine.{Machine, reply_step}
 use Rattle.mgmt_agent.proofs.Doing.{effects_of_decisions}
 use Rattle.orb_layout.specs.declared.ask.Ask.TheVariants as asks
-use Rattle.orb_layout.specs.declared.management.ManagementOrb.{ManagementOrb}
-use Rattle.orb_layout.specs.Replies.{Payload}
-use Rattle.packet_store.specs.declared.sent.Sent.{Sent}
-use Rattle.packet_store.specs.Kept.{found_sent}
-use Rattle.rbc_disk.specs.Disk.{Disk}
-use Rattle.rbc_disk.specs.Runs.{Told}
-use Rattle.sbp_bus.specs.declared.places.Holder.{Holder}
-use Rattle.sbp_bus.specs.Generations.{GenerationsState, id_of, topology_at}
-use Rattle.sbp_bus.specs.Packets.{judged_note}
-use Rattle.sbp_initiator.specs.States.{status_in}
-use Rattle.sbp_journal.specs.Outgoings.{empty_outbox}
-use Rattle.sbp_journal.specs.Run.{Moment, said}
-use Rattle.sbp_journal.specs.Wire.{terms}
-use Rattle.sbp_journal.specs.declared.cause.Judged.{Judged}
 use Rattle.sbp_journal.specs.declared.cause.Judged.TheVariants as judgements
-use Rattle.sbp_journal.specs.declared.operation.Operation.{Operation as Word}
-use Rattle.sbp_laws.specs.Actions.{cuts_list, running_operation}
-use Rattle.sbp_laws.specs.Hosts.{Underway, host_at, is_management}
-use Rattle.sbp_laws.specs.Packets.{id_for}
-use Rattle.sbp_laws.specs.Targets.{Decided, decided_by, is_nothing, target_at}
-use Rattle.sbp_target.specs.declared.purpose.Purpose.{Purpose}
 use Rattle.sbp_target.specs.declared.purpose.Purpose.TheVariants as purposes
-use Rattle.sbp_target.specs.Management.{manage}
-use Rattle.sbp_target.specs.Nodes.{NodeState, Scene as TargetScene, scene}
-use Rattle.sbp_target.specs.Receiving.{answer_in, concluded, received, received_as, with_layer}
-use Rattle.sbp_target.specs.Replies.{Whole}
-use Rattle.sbp_target.specs.Units.{is_cut}
-use Rattle.sbp_world.specs.Delivering.{whole_of}
-use Rattle.sbp_world.specs.Telling.{holder}
-use Rattle.sbp_world.specs.Worlds.{Scene, WorldState}
 use Rattle.sbp_world.proofs.Wire.Nodes.{handed_alike}
 use Rattle.sbp_world.proofs.Wire.Starts.{laws_of}
 use Rattle.sbp_target.proofs.Histories.Calling.{Good}
-use Rattle.sbp_world.specs.Agents.Holders.{AreHeldAt}
 use Rattle.sbp_world.specs.Agents.Management.Calls.{delivered}
-use Rattle.sbp_world.specs.Agents.Management.Offices.{Office}
 use Rattle.sbp_world.proofs.Agents.Management.Holding.{Holding, known_id, was_sent}
 use Rattle.sbp_world.proofs.Agents.Management.Still.{hist}
-use Rattle.sbp_world.specs.Hosts.Handing.{AreOthers}
-use Rattle.sbp_world.specs.Sessions.Writing.{is_written}
 use Rattle.sbp_world.proofs.Sessions.Writing.{behind}
-use Rattle.sbp_world.specs.Lists.Live.{HasOne}
-use Rattle.sbp_world.specs.Lists.ManagedFor.{managed_for}
-use Rattle.sbp_world.specs.Lists.Needs.{IsCalm}
-use Rattle.sbp_world.specs.Lists.Opened.{IsToldDone, IsUp, View, view}
 use Rattle.sbp_world.proofs.Lists.LiveBlocks.{tells_block}
 use Rattle.sbp_world.proofs.Lists.LiveCalls.{HasOperation, delivery_operation, replies, starts, stays}
 use Rattle.sbp_world.proofs.Lists.LiveDecides.{decided_kept, keeps_logins}

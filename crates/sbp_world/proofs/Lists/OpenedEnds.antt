@@ -1,51 +1,23 @@
 -- Why each list of an initiator is dropped: its AGENT_RESET or a read of AGENT_STATE is answered, or the status block 00 of its operation is got, which ends lists, or a
 -- later generation is seen.
-use Rattle.std.proofs.Common.{arith, ◌≡◌, ◌∙◌, refl, sym, ap, subst, ◌<◌, ◌==◌, ℕ, suc, Bool, true, false, cond, List, ◌∷◌, Option, Some, None, Ok}
-use Rattle.std.proofs.lemmas.Bool.Decides.{nat_tests}
-use Rattle.async_packet.specs.declared.packet.Header.{Header}
-use Rattle.async_packet.specs.Labels.{LabelParts}
-use Rattle.async_packet.specs.Packet.{Packet, header_in, write_block}
-use Rattle.async_packet.specs.Reading.{reading}
+use Rattle.sbp_world.proofs.Words.Std.{arith, ◌≡◌, ◌∙◌, refl, sym, ap, subst, ◌<◌, ◌==◌, ℕ, suc, Bool, true, false, cond, List, ◌∷◌, Option, Some, None, Ok, nat_tests}
+use Rattle.sbp_world.proofs.Words.Wire.{Header, LabelParts, Packet, header_in, write_block, reading, kind_as, shape_of, transaction, Finding, Layer, judging_step, of_again, of_generation, of_grammar, of_label, of_request, of_response, purpose_for, state_for, judged_note, empty_outbox, Moment, said, Sending, Transaction, terms, waits, Judged}
+use Rattle.sbp_world.proofs.Words.Initiator.{start, fifo_at, StatusBlock, PresentList, Ending, Purpose, Running, InitiatorState, receive_step, ends_list, counts_for, ending_of, is_list, is_orb_of, operation_in, place_of, status_in, ends_the_list, state_drops, is_out_seat}
+use Rattle.sbp_world.proofs.Words.Laws.{cuts_list, running_operation, Underway, host_at, is_management}
+use Rattle.sbp_world.proofs.Words.World.{Core, work_in, work_of, is_open, IsResetting, TellsOfPresent}
 use Rattle.bus_memory.specs.declared.window.Window.TheVariants as windows
-use Rattle.bus_memory.specs.Windows.{start}
-use Rattle.bus_transactions.specs.Rows.{kind_as, shape_of}
-use Rattle.bus_transactions.specs.Wire.{transaction}
-use Rattle.initiator_base.specs.Fifos.{fifo_at}
-use Rattle.label_table.specs.Layer.{Finding, Layer, judging_step, of_again, of_generation, of_grammar, of_label, of_request, of_response}
-use Rattle.label_table.specs.Peers.{purpose_for, state_for}
-use Rattle.orb_layout.specs.declared.status.StatusBlock.{StatusBlock}
 use Rattle.orb_layout.specs.declared.status.StatusKind.TheVariants as kinds
-use Rattle.orb_list.specs.declared.list.PresentList.{PresentList}
-use Rattle.sbp_bus.specs.Packets.{judged_note}
-use Rattle.sbp_initiator.specs.declared.purpose.Ending.{Ending}
 use Rattle.sbp_initiator.specs.declared.purpose.Ending.TheVariants as endings
-use Rattle.sbp_initiator.specs.declared.purpose.Purpose.{Purpose}
 use Rattle.sbp_initiator.specs.declared.purpose.Purpose.TheVariants as purposes
-use Rattle.sbp_initiator.specs.declared.purpose.Running.{Running}
-use Rattle.sbp_initiator.specs.declared.state.InitiatorState.{InitiatorState}
-use Rattle.sbp_initiator.specs.Receiving.{receive_step}
-use Rattle.sbp_initiator.specs.Refusals.{ends_list}
-use Rattle.sbp_initiator.specs.States.{counts_for, ending_of, is_list, is_orb_of, operation_in, place_of, status_in}
-use Rattle.sbp_journal.specs.Outgoings.{empty_outbox}
-use Rattle.sbp_journal.specs.Run.{Moment, said}
-use Rattle.sbp_journal.specs.Transactions.{Sending, Transaction}
-use Rattle.sbp_journal.specs.Wire.{terms, waits}
-use Rattle.sbp_journal.specs.declared.cause.Judged.{Judged}
 use Rattle.sbp_journal.specs.declared.cause.Judged.TheVariants as judgements
 use Rattle.sbp_journal.specs.declared.note.Note.TheVariants as notes
-use Rattle.sbp_laws.specs.Actions.{cuts_list, running_operation}
-use Rattle.sbp_laws.specs.Hosts.{Underway, host_at, is_management}
-use Rattle.sbp_initiator.specs.Histories.Drops.{ends_the_list, state_drops}
 use Rattle.sbp_world.proofs.Wire.Deliver.{judging_stays}
-use Rattle.sbp_world.specs.Hosts.Core.{Core, placed, work_in, work_of}
+use Rattle.sbp_world.specs.Hosts.Core.{placed}
 use Rattle.sbp_world.proofs.Hosts.Hosted.{Cored}
 use Rattle.sbp_world.proofs.Hosts.Lives.{At}
 use Rattle.sbp_world.proofs.Hosts.PointerNotes.{Fit}
 use Rattle.sbp_world.proofs.Hosts.Pointing.{called_of, under_way_now}
 use Rattle.sbp_world.proofs.Hosts.Shown.{IsHeard, IsShown}
-use Rattle.sbp_world.specs.Sessions.Entering.{is_open}
-use Rattle.sbp_session.specs.Seats.{is_out_seat}
-use Rattle.sbp_world.specs.Pointers.Moments.{IsResetting, TellsOfPresent}
 use Rattle.sbp_world.proofs.Pointers.Dropping.{drops_of, may_drop, receive_drops}
 use Rattle.sbp_world.proofs.Pointers.Ending.{read_in}
 use Rattle.sbp_world.proofs.Pointers.Finds.{closed_over, closes_at}

@@ -1,12 +1,9 @@
 -- What the first moment of a turn leaves of the lists of an initiator and of its operation, and what stands behind that in a turn of the target.
-use Rattle.std.proofs.Common.{arith, ◌≡◌, ◌⊎◌, inl, inr, ◌∙◌, refl, ap, ◌<◌, ℕ, Bool, true, false, List, ◌∷◌, ◌++◌, map, Some}
-use Rattle.std.proofs.lemmas.Bool.{false≢true}
-use Rattle.sbp_journal.specs.Run.{Moment, asked, said}
-use Rattle.sbp_journal.specs.Wire.{terms}
-use Rattle.sbp_journal.specs.declared.note.Note.{Note}
+use Rattle.sbp_world.proofs.Words.Std.{arith, ◌≡◌, ◌⊎◌, inl, inr, ◌∙◌, refl, ap, ◌<◌, ℕ, Bool, true, false, List, ◌∷◌, ◌++◌, map, Some, false≢true}
+use Rattle.sbp_world.proofs.Words.Wire.{Moment, asked, said, terms, Note}
+use Rattle.sbp_world.proofs.Words.Laws.{Underway, host_at}
+use Rattle.sbp_world.proofs.Words.World.{AllOf, of_rest}
 use Rattle.sbp_journal.specs.declared.note.Note.TheVariants as notes
-use Rattle.sbp_laws.specs.Hosts.{Underway, host_at}
-use Rattle.sbp_world.specs.Lists.Opened.{AllOf, of_rest}
 use Rattle.sbp_world.proofs.Lists.Generations.{is_sight, moment_generation}
 use Rattle.sbp_world.proofs.Lists.OpenedHosts.{Goes, IsLaterAt, IsSame, goes_then, one}
 use Rattle.sbp_world.proofs.Lists.OpenedMoments.{SameLists, all_hosts, all_lists, all_same, all_weaker, of_target, target_rest}

@@ -1,16 +1,10 @@
 -- What others than the target do keeps it, for which list an agent is out of RESET, where no list is dropped that such an agent has.
-use Rattle.std.proofs.Common.{arith, ◌≡◌, ◌⊎◌, inl, inr, ◌∙◌, refl, sym, ap, subst, ◌<◌, ◌≤◌, ℕ, suc, nat_eq, nat_lt, Bool, true, false, Some}
-use Rattle.std.proofs.lemmas.Bool.Decides.{nat_tests}
-use Rattle.std.proofs.lemmas.Option.{same_Some}
+use Rattle.sbp_world.proofs.Words.Std.{arith, ◌≡◌, ◌⊎◌, inl, inr, ◌∙◌, refl, sym, ap, subst, ◌<◌, ◌≤◌, ℕ, suc, nat_eq, nat_lt, Bool, true, false, Some, nat_tests, same_Some}
+use Rattle.sbp_world.proofs.Words.Wire.{Sending, Operation}
+use Rattle.sbp_world.proofs.Words.Initiator.{start}
+use Rattle.sbp_world.proofs.Words.Laws.{cuts_list, is_management}
+use Rattle.sbp_world.proofs.Words.World.{holder, WorldState, AreOpenFor, as_got, IsDoneBlock, IsOpenFor, IsServedReset, IsToldDone, IsToldReset, IsUp, View}
 use Rattle.bus_memory.specs.declared.window.Window.TheVariants as windows
-use Rattle.bus_memory.specs.Windows.{start}
-use Rattle.sbp_journal.specs.Transactions.{Sending}
-use Rattle.sbp_journal.specs.declared.operation.Operation.{Operation}
-use Rattle.sbp_laws.specs.Actions.{cuts_list}
-use Rattle.sbp_laws.specs.Hosts.{is_management}
-use Rattle.sbp_world.specs.Telling.{holder}
-use Rattle.sbp_world.specs.Worlds.{WorldState}
-use Rattle.sbp_world.specs.Lists.Opened.{AreOpenFor, as_got, IsDoneBlock, IsOpenFor, IsServedReset, IsToldDone, IsToldReset, IsUp, View}
 use Rattle.sbp_world.proofs.Lists.OpenedHosts.{IsSame}
 use Rattle.sbp_world.proofs.Lists.OpenedTurns.{Grown, WasUp}
 

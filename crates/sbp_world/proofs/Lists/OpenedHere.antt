@@ -1,20 +1,10 @@
 -- An agent that has a list open has the list for which the write that opened it was named: the present one, or the latest one while its initiator is ahead.
-use Rattle.std.proofs.Common.{arith, ◌≡◌, ◌∙◌, refl, sym, ap, ◌&&◌, ℕ, suc, nat_eq, Bool, true, false, cond, List, [], ◌∷◌, ◌++◌, Option, Some, None}
-use Rattle.std.proofs.lemmas.Bool.Decides.{nat_tests}
-use Rattle.std.proofs.lemmas.Option.{same_Some}
-use Rattle.bus_memory.specs.Windows.{slot_of}
-use Rattle.sbp_journal.specs.Run.{Moment, asked, said}
-use Rattle.sbp_journal.specs.Transactions.{Sending}
-use Rattle.sbp_journal.specs.Wire.{terms}
-use Rattle.sbp_journal.specs.declared.note.Note.{Note}
+use Rattle.sbp_world.proofs.Words.Std.{arith, ◌≡◌, ◌∙◌, refl, sym, ap, ◌&&◌, ℕ, suc, nat_eq, Bool, true, false, cond, List, [], ◌∷◌, ◌++◌, Option, Some, None, nat_tests, same_Some}
+use Rattle.sbp_world.proofs.Words.Wire.{Moment, asked, said, Sending, terms, Note}
+use Rattle.sbp_world.proofs.Words.Initiator.{slot_of}
+use Rattle.sbp_world.proofs.Words.Laws.{list_in, named_in}
+use Rattle.sbp_world.proofs.Words.World.{holder, WorldState, AreHere, IsHere, Under, WhereTameOrFew, initiator_in, is_open_at, machine_at, AreAllOpenFor, AreOpenFor, AsGot, IsOpenFor, IsUp, as_got, got_as, view, AreNamedFor}
 use Rattle.sbp_journal.specs.declared.note.Note.TheVariants as notes
-use Rattle.sbp_laws.specs.Lists.{list_in, named_in}
-use Rattle.sbp_world.specs.Telling.{holder}
-use Rattle.sbp_world.specs.Worlds.{WorldState}
-use Rattle.sbp_world.specs.Lists.Closes.{AreHere, IsHere, Under, WhereTameOrFew}
-use Rattle.sbp_world.specs.Lists.Needs.{initiator_in, is_open_at, machine_at}
-use Rattle.sbp_world.specs.Lists.Opened.{AreAllOpenFor, AreOpenFor, AsGot, IsOpenFor, IsUp, as_got, got_as, view}
-use Rattle.sbp_world.specs.Lists.Places.{AreNamedFor}
 use Rattle.sbp_world.proofs.Lists.OpenTurns.{listing_up}
 
 -- ---- when a packet was got first

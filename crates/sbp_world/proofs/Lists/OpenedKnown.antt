@@ -1,12 +1,10 @@
 -- What is known, in every run, of the writes of ORB_POINTER, of the moments of lists, of generations and of registers: by it a list that an agent has open is the
 -- present one.
+use Rattle.sbp_world.proofs.Words.World.{AreHere, Under, WhereTameOrFew, LiveLaw, NoneRefused}
 use Rattle.sbp_world.proofs.Pointers.Based.{registers_law}
 use Rattle.sbp_world.proofs.Pointers.Proved.{moments_law, pointers_law}
 use Rattle.sbp_world.proofs.Sessions.HoldingRuns.{holding_law}
 use Rattle.sbp_world.proofs.Sessions.Runs.{caught_between_law, caught_law, joined_law}
-use Rattle.sbp_world.specs.Lists.Closes.{AreHere, Under, WhereTameOrFew}
-use Rattle.sbp_world.specs.Lists.Live.{LiveLaw}
-use Rattle.sbp_world.specs.Lists.Opened.{NoneRefused}
 use Rattle.sbp_world.proofs.Lists.Bases.{bases_law}
 use Rattle.sbp_world.proofs.Lists.Begun.{begun_law}
 use Rattle.sbp_world.proofs.Lists.Courses.{EveryPlace}

@@ -1,7 +1,5 @@
 -- For which list an agent is out of RESET, and that a list which an agent has open is the present one, at each place of a run before which lists were open as they should be.
-use Rattle.sbp_world.specs.Lists.Closes.{AreHere, Under, WhereTameOrFew}
-use Rattle.sbp_world.specs.Lists.Live.{LiveLaw}
-use Rattle.sbp_world.specs.Lists.Opened.{AreAllOpenFor, NoneRefused}
+use Rattle.sbp_world.proofs.Words.World.{AreHere, Under, WhereTameOrFew, LiveLaw, AreAllOpenFor, NoneRefused}
 use Rattle.sbp_world.proofs.Lists.Courses.{EveryPlace}
 use Rattle.sbp_world.proofs.Lists.LiveGiven.{LawsAt}
 use Rattle.sbp_world.proofs.Lists.OpenedHere.{here_of}

@@ -1,42 +1,17 @@
 -- What is known of the management of an initiator that injected no packets, at each place of a run in which none did, or few logins were given: what is decided for its operation is the ORB in
 -- the place of that, its node has one live login, an operation that ends lists has no response, and each status block that waits is one that the target tells.
-use Rattle.std.proofs.Common.{◌≡◌, ◌∙◌, ◌⊎◌, inl, inr, refl, sym, ap, subst, ℕ, suc, ◌<◌, true, false, List, ◌∷◌, ◌++◌, map, length, Some}
-use Rattle.async_packet.specs.Labels.{LabelParts}
-use Rattle.async_packet.specs.Packet.{Packet}
+use Rattle.sbp_world.proofs.Words.Std.{◌≡◌, ◌∙◌, ◌⊎◌, inl, inr, refl, sym, ap, subst, ℕ, suc, ◌<◌, true, false, List, ◌∷◌, ◌++◌, map, length, Some}
+use Rattle.sbp_world.proofs.Words.Wire.{LabelParts, Packet, judging_step, of_response, Sent, found_sent, Moment, asked, said, terms}
+use Rattle.sbp_world.proofs.Words.Target.{Operation, decide, Disk, answer_in}
+use Rattle.sbp_world.proofs.Words.Initiator.{start_of, Payload}
+use Rattle.sbp_world.proofs.Words.Laws.{cuts_list, Underway, host_at, is_management, id_for, Decided, decided_by}
+use Rattle.sbp_world.proofs.Words.World.{history_of, ready_logins, after, beginning, after_all, WorldState, begun, initiator_at, more_deliveries, is_written, AreAsked, IsKept, HasGivenUp, HasOne, IsLive, LiveLaw, IsCalm, view, IsSilent}
 use Rattle.bus_memory.specs.declared.window.Window.TheVariants as windows
-use Rattle.bus_memory.specs.Windows.{start as start_of}
-use Rattle.label_table.specs.Layer.{judging_step, of_response}
-use Rattle.mgmt_agent.specs.declared.operation.Operation.{Operation}
-use Rattle.mgmt_agent.specs.Decisions.{decide}
-use Rattle.orb_layout.specs.Replies.{Payload}
-use Rattle.packet_store.specs.declared.sent.Sent.{Sent}
-use Rattle.packet_store.specs.Kept.{found_sent}
-use Rattle.rbc_disk.specs.Disk.{Disk}
-use Rattle.sbp_journal.specs.Run.{Moment, asked, said}
-use Rattle.sbp_journal.specs.Wire.{terms}
-use Rattle.sbp_laws.specs.Actions.{cuts_list}
-use Rattle.sbp_laws.specs.Hosts.{Underway, host_at, is_management}
-use Rattle.sbp_laws.specs.Packets.{id_for}
-use Rattle.sbp_laws.specs.Targets.{Decided, decided_by}
 use Rattle.sbp_target.specs.declared.purpose.Purpose.TheVariants as purposes
-use Rattle.sbp_target.specs.Receiving.{answer_in}
-use Rattle.sbp_world.specs.Histories.{history_of}
-use Rattle.sbp_world.specs.Making.{ready_logins}
-use Rattle.sbp_world.specs.Runs.{after, beginning}
-use Rattle.sbp_world.specs.Settling.{after_all}
-use Rattle.sbp_world.specs.Worlds.{WorldState, begun, initiator_at}
 use Rattle.sbp_world.proofs.Wire.Starts.{laws_of}
 use Rattle.sbp_world.proofs.Agents.Management.Holding.{Holding}
 use Rattle.sbp_world.proofs.Agents.Management.Still.{hist}
-use Rattle.sbp_world.specs.Hosts.Runs.{more_deliveries}
 use Rattle.sbp_world.proofs.Hosts.Runs.{count_after, count_between}
-use Rattle.sbp_world.specs.Sessions.Writing.{is_written}
-use Rattle.sbp_world.specs.Lists.Contents.{AreAsked}
-use Rattle.sbp_world.specs.Lists.KeptOrbs.{IsKept}
-use Rattle.sbp_world.specs.Lists.Live.{HasGivenUp, HasOne, IsLive, LiveLaw}
-use Rattle.sbp_world.specs.Lists.Needs.{IsCalm}
-use Rattle.sbp_world.specs.Lists.Opened.{view}
-use Rattle.sbp_world.specs.Lists.Silences.{IsSilent}
 use Rattle.sbp_world.proofs.Lists.ContentAsked.{contents_law}
 use Rattle.sbp_world.proofs.Lists.Courses.{EveryPlace, more_than_one}
 use Rattle.sbp_world.proofs.Lists.KeptBrings.{brings}

@@ -1,21 +1,11 @@
 -- The notes that a turn has behind its first moment: what the target tells and sends, and what the others do. They leave the generations of the nodes, and
 -- how often packets were taken and served.
-use Rattle.std.proofs.Common.{arith, ◌≡◌, ◌∙◌, refl, sym, ap, ◌≤◌, ◌==◌, ℕ, zero, suc, nat_eq, not, Bool, true, false, cond, List, [], ◌∷◌, ◌++◌, map, Option, Some, None}
-use Rattle.std.proofs.lemmas.Bool.Decides.{nat_tests}
-use Rattle.std.proofs.lemmas.Bool.{false≢true}
-use Rattle.bus_transactions.specs.Packets.{SerialsCount}
-use Rattle.sbp_journal.specs.Run.{Moment, asked, said}
-use Rattle.sbp_journal.specs.Transactions.{Sending, Transaction, begun_by}
-use Rattle.sbp_journal.specs.Wire.{Owed, Terms, begins, gives, pays, puts, sends, terms}
-use Rattle.sbp_journal.specs.declared.note.Note.{Note}
+use Rattle.sbp_world.proofs.Words.Std.{arith, ◌≡◌, ◌∙◌, refl, sym, ap, ◌≤◌, ◌==◌, ℕ, zero, suc, nat_eq, not, Bool, true, false, cond, List, [], ◌∷◌, ◌++◌, map, Option, Some, None, nat_tests, false≢true}
+use Rattle.sbp_world.proofs.Words.Wire.{SerialsCount, Moment, asked, said, Sending, Transaction, begun_by, Owed, Terms, begins, gives, pays, puts, sends, terms, Note}
+use Rattle.sbp_world.proofs.Words.Laws.{host_at, present_list, lists}
+use Rattle.sbp_world.proofs.Words.World.{pointed_list, state_list, AllOf, of_rest}
 use Rattle.sbp_journal.specs.declared.note.Note.TheVariants as notes
-use Rattle.sbp_laws.specs.Hosts.{host_at}
-use Rattle.sbp_laws.specs.Lists.{present_list}
-use Rattle.sbp_laws.specs.Terms.{lists}
-use Rattle.sbp_world.specs.Pointers.Pointers.{pointed_list}
 use Rattle.sbp_world.proofs.Hosts.Remaining.{gets_same, ignores_that_same, opened_same, remains, serials_behind, times_out_same}
-use Rattle.sbp_world.specs.Pointers.Moments.{state_list}
-use Rattle.sbp_world.specs.Lists.Opened.{AllOf, of_rest}
 use Rattle.sbp_world.proofs.Lists.OpenedHosts.{Goes, IsLaterAt, goes_then, like, one}
 use Rattle.sbp_world.proofs.Common.{cond_off}
 use Rattle.sbp_world.proofs.Hosts.Held.{sends_sent}

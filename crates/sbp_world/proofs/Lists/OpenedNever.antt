@@ -1,24 +1,13 @@
 -- A packet that an initiator gets drops no list that an agent of the target is out of RESET for: the target had told of it before, and none was so since.
-use Rattle.std.proofs.Common.{arith, ◌≡◌, ◌∙◌, refl, sym, ap, subst, ◌<◌, ℕ, suc, true, List, ◌∷◌, Some}
-use Rattle.std.proofs.lemmas.Option.{same_Some}
-use Rattle.async_packet.specs.Reading.{reading}
-use Rattle.bus_transactions.specs.Wire.{as_sending}
-use Rattle.label_table.specs.Requests.{is_write}
-use Rattle.packet_store.specs.declared.sent.Sent.{Sent}
-use Rattle.packet_store.specs.Kept.{found_sent}
-use Rattle.sbp_journal.specs.Run.{Moment, said}
-use Rattle.sbp_journal.specs.Transactions.{Sending}
-use Rattle.sbp_journal.specs.Wire.{terms}
+use Rattle.sbp_world.proofs.Words.Std.{arith, ◌≡◌, ◌∙◌, refl, sym, ap, subst, ◌<◌, ℕ, suc, true, List, ◌∷◌, Some, same_Some}
+use Rattle.sbp_world.proofs.Words.Wire.{reading, as_sending, is_write, Sent, found_sent, Moment, said, Sending, terms}
+use Rattle.sbp_world.proofs.Words.Laws.{Underway}
+use Rattle.sbp_world.proofs.Words.World.{WorldState, Stands, IsResetting, TellsOfPresent, IsCalm, AreOpenFor, Ends, IsDoneNow, ends_by_reset, ends_by_sight, ends_by_state, ends_by_status, view}
 use Rattle.sbp_journal.specs.declared.note.Note.TheVariants as notes
-use Rattle.sbp_laws.specs.Hosts.{Underway}
 use Rattle.sbp_journal.specs.declared.operation.Operation.TheVariants as operations
-use Rattle.sbp_world.specs.Worlds.{WorldState}
-use Rattle.sbp_world.specs.Wire.Wires.{Stands}
 use Rattle.sbp_world.proofs.Agents.Management.Holding.{was_sent}
 use Rattle.sbp_world.proofs.Agents.Management.Still.{hist}
-use Rattle.sbp_world.specs.Pointers.Moments.{IsResetting, TellsOfPresent}
-use Rattle.sbp_world.specs.Lists.Needs.{IsCalm}
-use Rattle.sbp_world.specs.Lists.Opened.{AreOpenFor, Ends, IsAnswered, IsDoneNow, ends_by_reset, ends_by_sight, ends_by_state, ends_by_status, view}
+use Rattle.sbp_world.specs.Lists.Opened.{IsAnswered}
 use Rattle.sbp_world.proofs.Lists.OpenedAnswers.{answers, complete_rcode, from_target, served_once, was_asked}
 use Rattle.sbp_world.proofs.Lists.OpenedTurns.{NoneUp}
 

@@ -1,31 +1,18 @@
 -- For which operation the target's management sends a packet in a turn: it is the operation behind the turn, and what begins the turn is its reply, or its start.
-use Rattle.std.proofs.Common.{◌≡◌, ◌∙◌, ◌⊎◌, inl, inr, refl, sym, ap, subst, ℕ, zero, suc, ◌==◌, ◌&&◌, nat_eq, not, Bool, true, false, cond, List, [], ◌∷◌, ◌++◌, map, Option, Some, None}
-use Rattle.std.specs.Prelude.{unwrap_or}
-use Rattle.mgmt_agent.specs.declared.operation.Operation.{Operation}
+use Rattle.sbp_world.proofs.Words.Std.{◌≡◌, ◌∙◌, ◌⊎◌, inl, inr, refl, sym, ap, subst, ℕ, zero, suc, ◌==◌, ◌&&◌, nat_eq, not, Bool, true, false, cond, List, [], ◌∷◌, ◌++◌, map, Option, Some, None, unwrap_or}
+use Rattle.sbp_world.proofs.Words.Wire.{judged_note, Access, Start, management_agent, no_start, register, rom_start, start_at, start_serves, Judged, Note, Moment, said, Terms}
+use Rattle.sbp_world.proofs.Words.Target.{Operation, reply_in, reply_to, start_step, start_with, Table, Disk}
+use Rattle.sbp_world.proofs.Words.Initiator.{offset_at, Answer, Expired}
+use Rattle.sbp_world.proofs.Words.Laws.{access_at, answer_in, answered_at, id_for, packet_at, receiver_in, sender_in, Target, got_by, is_nothing, is_serial, known_at, over, laws_replied, request_got, reset_seen, target_at}
+use Rattle.sbp_world.proofs.Words.World.{Office, at_rest, office_of, replied, started, started_by, is_its_packet, managed_for, operation_if, AllOf, outgoing_for}
 use Rattle.mgmt_agent.specs.declared.operation.Phase.{Phase}
 use Rattle.mgmt_agent.specs.declared.operation.Phase.TheVariants as phases
-use Rattle.mgmt_agent.specs.Machine.{Machine, reply_in, reply_step, reply_to, start_step, start_with}
-use Rattle.login_table.specs.Table.{Table}
+use Rattle.mgmt_agent.specs.Machine.{Machine, reply_step}
 use Rattle.orb_layout.specs.declared.ask.Ask.TheVariants as asks
-use Rattle.orb_layout.specs.Pointers.{offset_at}
-use Rattle.orb_layout.specs.Replies.{Answer, Expired}
-use Rattle.rbc_disk.specs.Disk.{Disk}
-use Rattle.sbp_bus.specs.Packets.{judged_note}
-use Rattle.sbp_journal.specs.Addresses.{Access, Start, management_agent, no_start, register, rom_start, start_at, start_serves}
-use Rattle.sbp_journal.specs.declared.cause.Judged.{Judged}
 use Rattle.sbp_journal.specs.declared.cause.Judged.TheVariants as judgements
-use Rattle.sbp_journal.specs.declared.note.Note.{Note}
 use Rattle.sbp_journal.specs.declared.note.Note.TheVariants as notes
-use Rattle.sbp_journal.specs.Run.{Moment, said}
-use Rattle.sbp_journal.specs.Wire.{Terms}
-use Rattle.sbp_laws.specs.Packets.{access_at, answer_in, answered_at, id_for, packet_at, receiver_in, sender_in}
-use Rattle.sbp_laws.specs.Targets.{Target, got_by, is_nothing, is_serial, known_at, over, replied as laws_replied, request_got, reset_seen, target_at}
-use Rattle.sbp_world.specs.Agents.Management.Offices.{Office, at_rest, office_of, replied, started, started_by}
 use Rattle.sbp_world.proofs.Agents.Management.Firsts.{other_reply, own_reply, request_keeps, served_office, start_office}
 use Rattle.sbp_world.proofs.Agents.Management.Offices.{IsBehind, over_keeps}
-use Rattle.sbp_world.specs.Lists.ManagedFor.{is_its_packet, managed_for, operation_if}
-use Rattle.sbp_world.specs.Lists.Opened.{AllOf}
-use Rattle.sbp_world.specs.Lists.Tellings.{outgoing_for}
 use Rattle.sbp_world.proofs.Lists.ManageOffices.{Lingers, fails, lasts, note_lingers, office_at, sent_office}
 use Rattle.sbp_world.proofs.Lists.ManageTerms.{none_is}
 use Rattle.sbp_world.proofs.Common.{untrue}

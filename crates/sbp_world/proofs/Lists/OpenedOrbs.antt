@@ -1,22 +1,13 @@
 -- The ORB of an operation that ends lists is one that ends lists at the target: a logout, an abort of the task set, a reset of the unit or of the target.
-use Rattle.std.proofs.Common.{arith, ◌≡◌, ◌∙◌, refl, sym, ap, subst, ◌<◌, ◌≤◌, ◌+◌, ◌*◌, ◌/◌, ◌%◌, ◌^◌, ℕ, Bool, true, false, List, Some}
-use Rattle.mgmt_agent.specs.declared.function.Function.{Function}
+use Rattle.sbp_world.proofs.Words.Std.{arith, ◌≡◌, ◌∙◌, refl, sym, ap, subst, ◌<◌, ◌≤◌, ◌+◌, ◌*◌, ◌/◌, ◌%◌, ◌^◌, ℕ, Bool, true, false, List, Some, quad}
+use Rattle.sbp_world.proofs.Words.Wire.{Action, Operation, Moment}
+use Rattle.sbp_world.proofs.Words.Target.{Function, function_of}
+use Rattle.sbp_world.proofs.Words.Initiator.{ManagementOrb, management_bytes, management_options, management_orb, bit}
+use Rattle.sbp_world.proofs.Words.Laws.{cuts_list, before_sent, Host, Underway, host_at, is_management, operation_of, management_orb_of, place_bytes, place_held}
+use Rattle.sbp_world.proofs.Words.World.{IsUnderway, underway_orb}
 use Rattle.mgmt_agent.specs.declared.function.Function.TheVariants as functions
-use Rattle.mgmt_agent.specs.Statuses.{function_of}
-use Rattle.orb_layout.specs.declared.management.ManagementOrb.{ManagementOrb}
-use Rattle.orb_layout.specs.ManagementOrbs.{management_bytes, management_options, management_orb}
-use Rattle.orb_layout.specs.Pointers.{bit}
-use Rattle.sbp_base.specs.Quadlets.{quad}
-use Rattle.sbp_journal.specs.declared.event.Action.{Action}
 use Rattle.sbp_journal.specs.declared.event.Action.TheVariants as actions
-use Rattle.sbp_journal.specs.declared.operation.Operation.{Operation}
 use Rattle.sbp_journal.specs.declared.operation.Operation.TheVariants as operations
-use Rattle.sbp_journal.specs.Run.{Moment}
-use Rattle.sbp_laws.specs.Actions.{cuts_list}
-use Rattle.sbp_laws.specs.CarriedBytes.{before_sent}
-use Rattle.sbp_laws.specs.Hosts.{Host, Underway, host_at, is_management, operation_of}
-use Rattle.sbp_laws.specs.Served.{management_orb_of, place_bytes, place_held}
-use Rattle.sbp_world.specs.Lists.Underway.{IsUnderway, underway_orb}
 use Rattle.sbp_world.proofs.Lists.ManageTerms.{none_is, same_some}
 use Rattle.sbp_world.proofs.Hosts.OrbSpelled.{bit_small}
 use Rattle.sbp_world.proofs.Common.{untrue}

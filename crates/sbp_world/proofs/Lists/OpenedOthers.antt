@@ -1,46 +1,16 @@
 -- What initiators do, and what comes to them, keeps it, for which list an agent of the target is out of RESET.
-use Rattle.std.proofs.Common.{arith, ◌≡◌, ◌∙◌, refl, sym, ap, subst, ◌==◌, ◌+◌, ◌-◌, not, ℕ, suc, nat_eq, nat_lt, Bool, true, false, cond, List, ◌∷◌, ◌++◌, map, length, Option, Some, None}
-use Rattle.std.specs.Prelude.{slice_index_or, slice_set}
-use Rattle.std.proofs.lemmas.Bool.Decides.{nat_tests}
-use Rattle.std.proofs.lemmas.Bool.{false≢true}
-use Rattle.bus_transactions.specs.Wire.{as_sending}
-use Rattle.packet_store.specs.declared.sent.Sent.{Sent}
-use Rattle.packet_store.specs.Kept.{found_sent}
-use Rattle.sbp_bus.specs.declared.requests.Request.{Request}
-use Rattle.sbp_bus.specs.Generations.{id_of}
-use Rattle.sbp_bus.specs.Packets.{judged_note, no_packet}
-use Rattle.sbp_initiator.specs.Acting.{act_step}
-use Rattle.sbp_initiator.specs.Effects.{Turn}
-use Rattle.sbp_initiator.specs.Initiators.{new_state}
-use Rattle.sbp_initiator.specs.Receiving.{expire_step, receive_step}
-use Rattle.sbp_initiator.specs.Seeing.{see_step}
-use Rattle.sbp_initiator.specs.declared.state.InitiatorState.{InitiatorState}
-use Rattle.sbp_journal.specs.Outgoings.{empty_outbox}
-use Rattle.sbp_journal.specs.Run.{Moment, asked, said}
-use Rattle.sbp_journal.specs.Wire.{terms}
-use Rattle.sbp_journal.specs.declared.cause.Judged.{Judged}
+use Rattle.sbp_world.proofs.Words.Std.{arith, ◌≡◌, ◌∙◌, refl, sym, ap, subst, ◌==◌, ◌+◌, ◌-◌, not, ℕ, suc, nat_eq, nat_lt, Bool, true, false, cond, List, ◌∷◌, ◌++◌, map, length, Option, Some, None, slice_index_or, slice_set, nat_tests, false≢true}
+use Rattle.sbp_world.proofs.Words.Wire.{as_sending, Sent, found_sent, Request, id_of, judged_note, no_packet, empty_outbox, Moment, asked, said, terms, Judged, Action, Event, Note}
+use Rattle.sbp_world.proofs.Words.Initiator.{act_step, Turn, new_state, expire_step, receive_step, see_step, InitiatorState}
+use Rattle.sbp_world.proofs.Words.World.{marked, with_initiators, handed_out, acted, acted_by, weight_in, handed_all, initiator_learns, reset_line, see_line, target_learns, told_seen, with_seen, at_initiator, initiator_expires, inject_line, injected, injected_to, is_in_flight, lose_line, lost, refused, timed_out, posted, WorldState, initiator_at, with_initiator, with_note, without_notes, Stands, turn_of, IsCalm, AllOf, AreOpenFor, Ends, IsOpenFor, IsUp, View, view}
 use Rattle.sbp_journal.specs.declared.cause.Judged.TheVariants as judgements
-use Rattle.sbp_journal.specs.declared.event.Action.{Action}
-use Rattle.sbp_journal.specs.declared.event.Event.{Event}
-use Rattle.sbp_journal.specs.declared.note.Note.{Note}
 use Rattle.sbp_journal.specs.declared.note.Note.TheVariants as notes
-use Rattle.sbp_world.specs.Delivering.{marked, with_initiators}
-use Rattle.sbp_world.specs.Handing.{handed_out}
-use Rattle.sbp_world.specs.Lines.{acted, acted_by, weight_in}
-use Rattle.sbp_world.specs.Nodes.{handed_all, initiator_learns, reset_line, see_line, target_learns, told_seen, with_seen}
 use Rattle.sbp_world.specs.Nodes as nodes
-use Rattle.sbp_world.specs.Packets.{at_initiator, initiator_expires, inject_line, injected, injected_to, is_in_flight, lose_line, lost, refused, timed_out}
-use Rattle.sbp_world.specs.Sending.{posted}
-use Rattle.sbp_world.specs.Worlds.{WorldState, initiator_at, with_initiator, with_note, without_notes}
-use Rattle.sbp_world.specs.Wire.Wires.{Stands}
 use Rattle.sbp_world.proofs.Wire.Nodes.{handed_alike}
 use Rattle.sbp_world.proofs.Agents.Management.Holding.{was_sent}
 use Rattle.sbp_world.proofs.InitiatorForms as own
 use Rattle.sbp_world.proofs.Formed.{AreOwn}
 use Rattle.sbp_world.proofs.Agents.Management.Still.{hist}
-use Rattle.sbp_world.specs.Pointers.Moments.{turn_of}
-use Rattle.sbp_world.specs.Lists.Needs.{IsCalm}
-use Rattle.sbp_world.specs.Lists.Opened.{AllOf, AreOpenFor, Ends, IsOpenFor, IsUp, View, view}
 use Rattle.sbp_world.proofs.Lists.Extends.{marked_fresh}
 use Rattle.sbp_world.proofs.Lists.Lines.{hears}
 use Rattle.sbp_world.proofs.Lists.OpenedAside.{IsOthers, asked_first, got_first, ignored_first, late_first, plain_asked, plain_ignored, plain_late, plain_never, saw_first}

@@ -1,46 +1,16 @@
 -- What is known at a place of a run, for which list an agent is out of RESET.
-use Rattle.std.proofs.Common.{arith, ◌≡◌, ◌∙◌, refl, sym, ap, subst, ℕ, suc, ◌+◌, ◌<◌, ◌≤◌, true, List, ◌∷◌, ◌++◌, map, length, Option, Some}
-use Rattle.std.proofs.lemmas.Option.{same_Some}
+use Rattle.sbp_world.proofs.Words.Std.{arith, ◌≡◌, ◌∙◌, refl, sym, ap, subst, ℕ, suc, ◌+◌, ◌<◌, ◌≤◌, true, List, ◌∷◌, ◌++◌, map, length, Option, Some, same_Some}
+use Rattle.sbp_world.proofs.Words.Wire.{is_write, Holder, or_nobody, Event, Moment, asked, said, Sending, writing, terms}
+use Rattle.sbp_world.proofs.Words.Target.{Disk, Told}
+use Rattle.sbp_world.proofs.Words.Initiator.{start_of}
+use Rattle.sbp_world.proofs.Words.Laws.{host_at, slot_at, access_in_bytes}
+use Rattle.sbp_world.proofs.Words.World.{history_of, Run, after, beginning, MayAll, after_all, Scene, WorldState, begun, initiator_at, IsOfWire, AreHeldAt, IsRun, more_deliveries, AreRows, CaughtBetweenLaw, CaughtLaw, HaveCaught, JoinedLaw, AreUnrefused, MomentsLaw, PointersAt, PointersLaw, AreBased, BasesLaw, AreBegun, BegunLaw, FirstLaw, IsCalm, OpenBefore, OpenBetween, Under, WhereTameOrFew, IsUp, NoneRefused, view, AreOpened, IsPointedBy, IsCalmBeside, IsTameOrFew, IsFirst}
 use Rattle.bus_transactions.proofs.PacketParts.{asking_read, request_read}
-use Rattle.label_table.specs.Requests.{is_write}
-use Rattle.rbc_disk.specs.Disk.{Disk}
-use Rattle.rbc_disk.specs.Runs.{Told}
-use Rattle.sbp_bus.specs.declared.places.Holder.{Holder}
-use Rattle.sbp_bus.specs.Places.{or_nobody}
-use Rattle.sbp_journal.specs.declared.event.Event.{Event}
-use Rattle.sbp_journal.specs.Run.{Moment, asked, said}
-use Rattle.sbp_journal.specs.Transactions.{Sending, writing}
-use Rattle.sbp_journal.specs.Wire.{terms}
-use Rattle.sbp_world.specs.Histories.{history_of}
-use Rattle.sbp_world.specs.Runs.{Run, after, beginning}
-use Rattle.sbp_world.specs.Settling.{MayAll, after_all}
-use Rattle.sbp_world.specs.Worlds.{Scene, WorldState, begun, initiator_at}
-use Rattle.sbp_world.specs.Wire.History.{IsOfWire}
 use Rattle.sbp_world.proofs.Wire.Starts.{laws_of}
-use Rattle.sbp_world.specs.Agents.Holders.{AreHeldAt}
 use Rattle.sbp_world.proofs.Agents.Management.Still.{hist}
 use Rattle.sbp_world.proofs.Agents.Holders.{holders_between_law, holders_law}
-use Rattle.sbp_world.specs.Hosts.Runs.{IsRun, more_deliveries}
-use Rattle.sbp_world.specs.Hosts.Fits.{AreRows}
 use Rattle.sbp_world.proofs.Hosts.Runs.{count_after, count_between, run_law}
-use Rattle.sbp_world.specs.Sessions.Caught.{CaughtBetweenLaw, CaughtLaw, HaveCaught}
-use Rattle.sbp_world.specs.Sessions.Joined.{JoinedLaw}
 use Rattle.bus_memory.specs.declared.window.Window.TheVariants as windows
-use Rattle.bus_memory.specs.Windows.{start as start_of}
-use Rattle.sbp_laws.specs.Hosts.{host_at}
-use Rattle.sbp_laws.specs.Lists.{slot_at}
-use Rattle.sbp_laws.specs.Packets.{access_in_bytes}
-use Rattle.sbp_world.specs.Pointers.Bases.{AreUnrefused}
-use Rattle.sbp_world.specs.Pointers.Pointers.{MomentsLaw, PointersAt, PointersLaw}
-use Rattle.sbp_world.specs.Lists.Bases.{AreBased, BasesLaw}
-use Rattle.sbp_world.specs.Lists.Begun.{AreBegun, BegunLaw}
-use Rattle.sbp_world.specs.Lists.Firsts.{FirstLaw}
-use Rattle.sbp_world.specs.Lists.Needs.{IsCalm, OpenBefore, OpenBetween}
-use Rattle.sbp_world.specs.Lists.Closes.{Under, WhereTameOrFew}
-use Rattle.sbp_world.specs.Lists.Opened.{IsUp, NoneRefused, view}
-use Rattle.sbp_world.specs.Lists.Opens.{AreOpened, IsPointedBy}
-use Rattle.sbp_world.specs.Lists.FewLogins.{IsCalmBeside, IsTameOrFew}
-use Rattle.sbp_world.specs.Lists.Places.{IsFirst}
 use Rattle.sbp_world.proofs.Lists.JoinLaws.{begins_after, begins_between, rises_after, rises_between}
 use Rattle.sbp_world.proofs.Lists.OpenFresh.{Writes, writes_of}
 use Rattle.sbp_world.proofs.Lists.OpenProved.{After, facts_at, opens_law, were_after}

@@ -1,19 +1,9 @@
 -- For which list an agent is out of RESET, at each place of a run before which lists were open as they should be.
-use Rattle.std.proofs.Common.{arith, ◌≡◌, ◌∙◌, refl, sym, ap, subst, ℕ, suc, ◌+◌, ◌^◌, ◌<◌, ◌≤◌, false, List, [], ◌∷◌, ◌++◌, map, length, Option, Some, None}
-use Rattle.bus_transactions.specs.May.{is_reset}
-use Rattle.rbc_disk.specs.Disk.{Disk}
-use Rattle.rbc_disk.specs.Runs.{Told}
-use Rattle.sbp_bus.specs.Packets.{end_note}
-use Rattle.sbp_journal.specs.declared.event.Event.{Event}
+use Rattle.sbp_world.proofs.Words.Std.{arith, ◌≡◌, ◌∙◌, refl, sym, ap, subst, ℕ, suc, ◌+◌, ◌^◌, ◌<◌, ◌≤◌, false, List, [], ◌∷◌, ◌++◌, map, length, Option, Some, None}
+use Rattle.sbp_world.proofs.Words.Wire.{is_reset, end_note, Event, Moment, asked, said}
+use Rattle.sbp_world.proofs.Words.Target.{Disk, Told}
+use Rattle.sbp_world.proofs.Words.World.{history_of, moments_behind, MayHappen, happens, new_world, ready_logins, AreEntries, Entry, Run, after, beginning, MayAll, after_all, is_settled, AreLines, Scene, WorldState, begun, without_notes, IsRun, more_deliveries, IsCalm, OpenAfter, OpenBefore, OpenBetween, OpenIn, OpenLists, OpenWhile, IsTameOrFew, AreAllOpenFor, AreOpenFor, View, view}
 use Rattle.sbp_journal.specs.declared.event.Event.TheVariants as events
-use Rattle.sbp_journal.specs.Run.{Moment, asked, said}
-use Rattle.sbp_world.specs.Histories.{history_of, moments_behind}
-use Rattle.sbp_world.specs.Lines.{MayHappen, happens}
-use Rattle.sbp_world.specs.Making.{new_world, ready_logins}
-use Rattle.sbp_world.specs.Runs.{AreEntries, Entry, Run, after, beginning}
-use Rattle.sbp_world.specs.Settling.{MayAll, after_all, is_settled}
-use Rattle.sbp_world.specs.Wire.Lines.{AreLines}
-use Rattle.sbp_world.specs.Worlds.{Scene, WorldState, begun, without_notes}
 use Rattle.sbp_world.proofs.Wire.ToldBytes.{happened_fits}
 use Rattle.sbp_world.proofs.Agents.Management.Begins.{first_holds, first_past}
 use Rattle.sbp_world.proofs.Agents.Management.Holding.{Holding}
@@ -22,11 +12,7 @@ use Rattle.sbp_world.proofs.Agents.Management.Still.{hist}
 use Rattle.sbp_world.proofs.Agents.Holders.{are_held}
 use Rattle.sbp_world.proofs.Agents.Seating.{opened as seats_open}
 use Rattle.sbp_world.proofs.Agents.Holders as holders
-use Rattle.sbp_world.specs.Hosts.Runs.{IsRun, more_deliveries}
 use Rattle.sbp_world.proofs.Hosts.Runs.{count_after, count_between}
-use Rattle.sbp_world.specs.Lists.Needs.{IsCalm, OpenAfter, OpenBefore, OpenBetween, OpenIn, OpenLists, OpenWhile}
-use Rattle.sbp_world.specs.Lists.FewLogins.{IsTameOrFew}
-use Rattle.sbp_world.specs.Lists.Opened.{AreAllOpenFor, AreOpenFor, View, view}
 use Rattle.sbp_world.proofs.Lists.Calm.{asked_calm}
 use Rattle.sbp_world.proofs.Lists.OpenProved.{closed, facts_at as old_facts_at}
 use Rattle.sbp_world.proofs.Lists.OpenedPlaces.{IsPlace, Laws, ManagementLaw, place_after, place_between}

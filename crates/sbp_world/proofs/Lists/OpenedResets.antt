@@ -1,36 +1,17 @@
 -- As the target serves an AGENT_RESET that is under way, the agents of its initiator come to RESET: they are the one at which it is written.
-use Rattle.std.proofs.Common.{arith, ◌≡◌, ◌∙◌, refl, sym, ap, subst, ◌<◌, ◌≤◌, ◌+◌, ◌%◌, ◌^◌, ◌==◌, ◌&&◌, is_some, nat_le, nat_lt, ℕ, Bool, true, false, cond, List, [], length, Option, Some, None, Ok}
-use Rattle.std.proofs.lemmas.Bool.Decides.{nat_tests}
-use Rattle.std.proofs.lemmas.Bool.{false≢true}
-use Rattle.std.proofs.lemmas.Option.{same_Some}
-use Rattle.async_packet.specs.declared.packet.Header.{Header}
-use Rattle.async_packet.specs.Packet.{Packet, lock, lock_response, read_block, read_block_response, read_quadlet, read_quadlet_response, write_block, write_quadlet, write_response}
-use Rattle.async_packet.specs.Reading.{reading}
+use Rattle.sbp_world.proofs.Words.Std.{arith, ◌≡◌, ◌∙◌, refl, sym, ap, subst, ◌<◌, ◌≤◌, ◌+◌, ◌%◌, ◌^◌, ◌==◌, ◌&&◌, is_some, nat_le, nat_lt, ℕ, Bool, true, false, cond, List, [], length, Option, Some, None, Ok, nat_tests, false≢true, same_Some}
+use Rattle.sbp_world.proofs.Words.Wire.{Header, Packet, lock, lock_response, read_block, read_block_response, read_quadlet, read_quadlet_response, write_block, write_quadlet, write_response, reading, reply_kind, Finding, of_again, of_generation, of_grammar, of_label, of_request, of_response, Access, access_of, Sending, CutCause}
+use Rattle.sbp_world.proofs.Words.Target.{Told, address_error, demand_of, management_start, register_at, rom_start, served_by, cut, cut_node, reset_desk, Desk, Purpose, NodeState, TargetScene, desk_at, judged_scene, received_as, Whole, scene_of, answered, is_barred, serve, served_as}
+use Rattle.sbp_world.proofs.Words.Laws.{access_in, access_in_bytes, spelled_by}
+use Rattle.sbp_world.proofs.Words.World.{pointer_write, register_write, IsPointedBy}
 use Rattle.sbp_target.proofs.Histories.Found.{IsFound}
-use Rattle.label_table.specs.Requests.{reply_kind}
-use Rattle.label_table.specs.Layer.{Finding, of_again, of_generation, of_grammar, of_label, of_request, of_response}
-use Rattle.rbc_disk.specs.Runs.{Told}
-use Rattle.sbp_journal.specs.Addresses.{Access, access_of}
-use Rattle.sbp_journal.specs.Transactions.{Sending}
 use Rattle.sbp_journal.specs.declared.cause.Cause.TheVariants as causes
-use Rattle.sbp_journal.specs.declared.cause.CutCause.{CutCause}
 use Rattle.sbp_journal.specs.declared.cause.CutCause.TheVariants as cuts
 use Rattle.sbp_journal.specs.declared.cause.Judged.TheVariants as judgements
-use Rattle.sbp_laws.specs.Packets.{access_in, access_in_bytes, spelled_by}
-use Rattle.sbp_world.specs.Pointers.Moments.{pointer_write, register_write}
-use Rattle.sbp_world.specs.Lists.Opens.{IsPointedBy}
 use Rattle.target_base.specs.declared.address.Access.TheVariants as accesses
 use Rattle.target_base.specs.declared.address.Demand.TheVariants as demands
 use Rattle.target_base.specs.declared.address.Register.TheVariants as registers
-use Rattle.target_base.specs.Addresses.{address_error, demand_of, management_start, register_at, rom_start, served_by}
-use Rattle.sbp_target.specs.Agents.{cut, cut_node}
-use Rattle.sbp_target.specs.Desks.{reset_desk}
-use Rattle.sbp_target.specs.declared.desk.Desk.{Desk}
-use Rattle.sbp_target.specs.declared.purpose.Purpose.{Purpose}
-use Rattle.sbp_target.specs.Nodes.{NodeState, Scene as TargetScene, desk_at}
-use Rattle.sbp_target.specs.Receiving.{judged_scene, received_as}
-use Rattle.sbp_target.specs.Replies.{Whole, scene_of}
-use Rattle.sbp_target.specs.Serving.{answered, is_barred, request_step, serve, served_as}
+use Rattle.sbp_target.specs.Serving.{request_step}
 use Rattle.sbp_world.proofs.Lists.SameAgents.{set_here}
 use Rattle.sbp_world.proofs.Lists.OpenCuts.{Here, Listing, is_up, reset_none}
 use Rattle.sbp_world.proofs.Lists.OpenedAddresses.{IsBase, IsNear, block_base, demand_served, near_register}

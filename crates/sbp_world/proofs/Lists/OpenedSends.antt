@@ -1,30 +1,15 @@
 -- What a turn of the target says in its order: what it tells, and behind that the packets that it sends. A new status block of its management is one that its
 -- operation writes now.
-use Rattle.std.proofs.Common.{arith, ◌≡◌, ◌∙◌, ◌⊎◌, inl, inr, refl, sym, ap, ℕ, zero, suc, ◌<◌, Bool, true, false, List, [], ◌∷◌, ◌++◌, map, Some}
-use Rattle.bus_transactions.specs.Packets.{SerialsCount}
-use Rattle.mgmt_agent.specs.declared.operation.Operation.{Operation}
+use Rattle.sbp_world.proofs.Words.Std.{arith, ◌≡◌, ◌∙◌, ◌⊎◌, inl, inr, refl, sym, ap, ℕ, zero, suc, ◌<◌, Bool, true, false, List, [], ◌∷◌, ◌++◌, map, Some}
+use Rattle.sbp_world.proofs.Words.Wire.{SerialsCount, OutboxState, Moment, said, terms, Note, Side}
+use Rattle.sbp_world.proofs.Words.Target.{Operation, Disk}
+use Rattle.sbp_world.proofs.Words.Laws.{Underway, host_at, is_nothing, target_at}
+use Rattle.sbp_world.proofs.Words.World.{handed_out, told, told_all, WorldState, AreOthers, IsOther, AreAsked, managed_for, IsManaged, IsTelling, AllOf, IsToldDone, view, outgoing_for}
 use Rattle.mgmt_agent.specs.Machine.{Machine}
-use Rattle.rbc_disk.specs.Disk.{Disk}
-use Rattle.sbp_journal.specs.Outgoings.{OutboxState}
-use Rattle.sbp_journal.specs.Run.{Moment, said}
-use Rattle.sbp_journal.specs.Wire.{terms}
-use Rattle.sbp_journal.specs.declared.note.Note.{Note}
 use Rattle.sbp_journal.specs.declared.note.Note.TheVariants as notes
-use Rattle.sbp_journal.specs.declared.side.Side.{Side}
 use Rattle.sbp_journal.specs.declared.side.Side.TheVariants as sides
-use Rattle.sbp_laws.specs.Hosts.{Underway, host_at}
-use Rattle.sbp_laws.specs.Targets.{is_nothing, target_at}
-use Rattle.sbp_world.specs.Handing.{handed_out}
-use Rattle.sbp_world.specs.Telling.{told, told_all}
-use Rattle.sbp_world.specs.Worlds.{WorldState}
 use Rattle.sbp_world.proofs.Agents.Management.Offices.{IsBehind}
 use Rattle.sbp_world.proofs.Agents.Management.Still.{hist}
-use Rattle.sbp_world.specs.Hosts.Handing.{AreOthers, IsOther}
-use Rattle.sbp_world.specs.Lists.Contents.{AreAsked}
-use Rattle.sbp_world.specs.Lists.ManagedFor.{managed_for}
-use Rattle.sbp_world.specs.Lists.Managing.{IsManaged, IsTelling}
-use Rattle.sbp_world.specs.Lists.Opened.{AllOf, IsToldDone, view}
-use Rattle.sbp_world.specs.Lists.Tellings.{outgoing_for}
 use Rattle.sbp_world.proofs.Lists.LiveBlocks.{sent_block}
 use Rattle.sbp_world.proofs.Lists.ManageKnown.{RestGot}
 use Rattle.sbp_world.proofs.Lists.ManageSent.{for_below}

@@ -1,50 +1,22 @@
 -- What the target answers to a read of AGENT_STATE: the state of the agent, which is 0 in RESET alone.
-use Rattle.std.proofs.Common.{arith, ◌≡◌, ◌⊎◌, inl, inr, ◌∙◌, refl, sym, ap, subst, ◌<◌, ◌≤◌, ◌+◌, ◌%◌, ◌^◌, ◌==◌, ◌&&◌, not, is_some, nat_le, ℕ, Bool, true, false, cond, List, [], ◌∷◌, ◌++◌, length, Option, Some, None, Ok}
-use Rattle.std.specs.Prelude.{slice_index_or}
-use Rattle.std.proofs.lemmas.Bool.Decides.{nat_tests}
-use Rattle.std.proofs.lemmas.Bool.{false≢true}
-use Rattle.std.proofs.lemmas.Option.{same_Some}
-use Rattle.async_packet.specs.Canon.{IsValid, canon}
-use Rattle.async_packet.specs.declared.packet.Header.{Header}
-use Rattle.async_packet.specs.Packet.{Packet, header_in, lock, lock_response, read_block, read_block_response, read_quadlet, read_quadlet_response, write_block, write_quadlet, write_response}
-use Rattle.async_packet.specs.Reading.{reading}
+use Rattle.sbp_world.proofs.Words.Std.{arith, ◌≡◌, ◌⊎◌, inl, inr, ◌∙◌, refl, sym, ap, subst, ◌<◌, ◌≤◌, ◌+◌, ◌%◌, ◌^◌, ◌==◌, ◌&&◌, not, is_some, nat_le, ℕ, Bool, true, false, cond, List, [], ◌∷◌, ◌++◌, length, Option, Some, None, Ok, slice_index_or, nat_tests, false≢true, same_Some, big_bytes, big_number, big_number-reads_back, quad}
+use Rattle.sbp_world.proofs.Words.Wire.{IsValid, canon, Header, Packet, header_in, lock, lock_response, read_block, read_block_response, read_quadlet, read_quadlet_response, write_block, write_quadlet, write_response, reading, AreBytes, FitsAnswer, Gives, response_to, Finding, of_again, of_generation, of_grammar, of_label, of_request, of_response, reply_kind, Access, access_of, Outgoing, answering_step}
+use Rattle.sbp_world.proofs.Words.Target.{AgentState, state_in, is_reset, Told, address_error, complete, demand_of, management_start, register_at, rom_start, served_by, Desk, Purpose, new_desk, NodeState, desk_at, judged_scene, received_as, Whole, scene_of, answer_step, answered, is_barred, serve, served_as, state_number}
+use Rattle.sbp_world.proofs.Words.Initiator.{ending_of}
+use Rattle.sbp_world.proofs.Words.Laws.{access_in_bytes}
+use Rattle.sbp_world.proofs.Words.World.{register_read}
 use Rattle.sbp_world.proofs.Pointers.Spelled.{read_canon}
-use Rattle.bus_transactions.specs.Fitting.{AreBytes, FitsAnswer}
 use Rattle.bus_transactions.proofs.FitJudged.{IsFoundAs, IsReadOf, no_gives, source_fits}
 use Rattle.bus_transactions.proofs.Fits.{answer_fits, bytes_quad, no_bytes}
-use Rattle.byteorder.specs.Endian.{big_bytes, big_number}
-use Rattle.byteorder.specs.Numbers.{big_number-reads_back}
-use Rattle.command_agent.specs.declared.step.AgentState.{AgentState}
 use Rattle.command_agent.specs.declared.step.AgentState.TheVariants as states
-use Rattle.command_agent.specs.Machine.{state_in}
-use Rattle.command_agent.specs.Steps.{is_reset}
-use Rattle.label_table.specs.Bodies.{Gives, response_to}
-use Rattle.label_table.specs.Layer.{Finding, of_again, of_generation, of_grammar, of_label, of_request, of_response}
-use Rattle.label_table.specs.Requests.{reply_kind}
-use Rattle.rbc_disk.specs.Runs.{Told}
-use Rattle.sbp_base.specs.Quadlets.{quad}
 use Rattle.sbp_initiator.specs.declared.purpose.Ending.TheVariants as endings
-use Rattle.sbp_initiator.specs.States.{ending_of}
-use Rattle.sbp_journal.specs.Addresses.{Access, access_of}
-use Rattle.sbp_journal.specs.declared.outbox.Outgoing.{Outgoing}
 use Rattle.sbp_journal.specs.declared.cause.Cause.TheVariants as causes
 use Rattle.sbp_journal.specs.declared.cause.Judged.TheVariants as judgements
-use Rattle.sbp_laws.specs.Packets.{access_in_bytes}
 use Rattle.target_base.specs.declared.address.Access.TheVariants as accesses
 use Rattle.target_base.specs.declared.address.Demand.TheVariants as demands
 use Rattle.target_base.specs.declared.address.Register.TheVariants as registers
-use Rattle.target_base.specs.Addresses.{address_error, complete, demand_of, management_start, register_at, rom_start, served_by}
 use Rattle.sbp_target.proofs.Histories.Found.{IsFound}
-use Rattle.sbp_target.specs.declared.desk.Desk.{Desk}
-use Rattle.sbp_target.specs.declared.purpose.Purpose.{Purpose}
-use Rattle.sbp_target.specs.Desks.{new_desk}
-use Rattle.sbp_target.specs.Nodes.{NodeState, desk_at}
-use Rattle.sbp_target.specs.Receiving.{judged_scene, received_as}
-use Rattle.sbp_target.specs.Replies.{Whole, scene_of}
-use Rattle.sbp_target.specs.Sending.{answer_step}
-use Rattle.sbp_target.specs.Serving.{answered, is_barred, request_step, serve, served_as, state_number}
-use Rattle.label_table.specs.Layer.{answering_step}
-use Rattle.sbp_world.specs.Pointers.Bases.{register_read}
+use Rattle.sbp_target.specs.Serving.{request_step}
 use Rattle.sbp_world.proofs.Lists.OpenCuts.{Listing, is_up}
 use Rattle.sbp_world.proofs.Lists.OpenedAddresses.{IsBase, demand_served, near_register}
 use Rattle.sbp_world.proofs.Lists.OpenedResets.{asks_for, near}

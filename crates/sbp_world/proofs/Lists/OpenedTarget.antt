@@ -1,14 +1,8 @@
 -- A turn of the target, by its moments: what it takes of the lists of an initiator, and what it answers.
-use Rattle.std.proofs.Common.{◌≡◌, ◌⊎◌, ◌∙◌, refl, ◌<◌, ℕ, suc, true, false, List, [], ◌∷◌, ◌++◌, map, Option, Some, None}
-use Rattle.std.proofs.lemmas.Bool.{false≢true}
-use Rattle.sbp_journal.specs.Run.{Moment, said}
-use Rattle.sbp_journal.specs.Transactions.{Sending, Transaction, begun_by}
-use Rattle.sbp_journal.specs.Wire.{Owed, Terms, begins, pays, puts, terms}
-use Rattle.sbp_journal.specs.declared.note.Note.{Note}
+use Rattle.sbp_world.proofs.Words.Std.{◌≡◌, ◌⊎◌, ◌∙◌, refl, ◌<◌, ℕ, suc, true, false, List, [], ◌∷◌, ◌++◌, map, Option, Some, None, false≢true}
+use Rattle.sbp_world.proofs.Words.Wire.{Moment, said, Sending, Transaction, begun_by, Owed, Terms, begins, pays, puts, terms, Note}
+use Rattle.sbp_world.proofs.Words.World.{holder, WorldState, AllOf, AreOpenFor, IsUp, of_rest, view}
 use Rattle.sbp_journal.specs.declared.note.Note.TheVariants as notes
-use Rattle.sbp_world.specs.Telling.{holder}
-use Rattle.sbp_world.specs.Worlds.{WorldState}
-use Rattle.sbp_world.specs.Lists.Opened.{AllOf, AreOpenFor, IsUp, of_rest, view}
 use Rattle.sbp_world.proofs.Lists.Generations.{is_sight}
 use Rattle.sbp_world.proofs.Lists.OpenedFirst.{generation_same, is_first, lists_same, operation_same}
 use Rattle.sbp_world.proofs.Lists.OpenedMoments.{of_target}

@@ -1,57 +1,22 @@
 -- What the target does keeps it, for which list an agent is out of RESET.
-use Rattle.std.proofs.Common.{arith, ◌≡◌, ◌⊎◌, inl, ◌∙◌, refl, sym, ap, subst, ◌<◌, ℕ, suc, nat_eq, nat_lt, Bool, true, false, cond, List, ◌∷◌, ◌++◌, map, length, Option, Some, None, Result, Ok, Err}
-use Rattle.std.proofs.lemmas.Bool.Decides.{nat_tests}
-use Rattle.std.proofs.Math.ListN.{get_or-map}
-use Rattle.std.proofs.lemmas.Bool.{false≢true}
-use Rattle.label_table.specs.declared.reply.Stale.{Stale}
-use Rattle.label_table.specs.Layer.{Layer, expiring_step, seeing_step, seen_in_generation}
-use Rattle.login_table.specs.declared.login.Login.{Login}
-use Rattle.login_table.specs.Table.{held as held_login, is_live, place_at}
-use Rattle.packet_store.specs.declared.sent.Sent.{Sent}
-use Rattle.packet_store.specs.Kept.{found_sent}
-use Rattle.rbc_disk.specs.Disk.{Disk}
-use Rattle.rbc_disk.specs.Runs.{Told}
-use Rattle.sbp_bus.specs.declared.requests.Request.{Request}
-use Rattle.sbp_bus.specs.Generations.{id_of}
-use Rattle.sbp_bus.specs.Packets.{judged_note}
-use Rattle.bus_transactions.specs.Wire.{Node}
+use Rattle.sbp_world.proofs.Words.Std.{arith, ◌≡◌, ◌⊎◌, inl, ◌∙◌, refl, sym, ap, subst, ◌<◌, ℕ, suc, nat_eq, nat_lt, Bool, true, false, cond, List, ◌∷◌, ◌++◌, map, length, Option, Some, None, Result, Ok, Err, nat_tests, get_or-map, false≢true}
+use Rattle.sbp_world.proofs.Words.Wire.{Stale, Layer, expiring_step, seeing_step, seen_in_generation, Sent, found_sent, Request, id_of, judged_note, Node, OutboxState, empty_outbox, Moment, said, Transaction, Terms, terms, times_out, Judged, Note}
+use Rattle.sbp_world.proofs.Words.Target.{Login, held_login, is_live, place_at, Disk, Told, alone, sees, ticks, Purpose, NodeState, TargetScene, login_at, scene, cleared_node, expired, expired_in, reset_by, seen, with_key, cut_all}
+use Rattle.sbp_world.proofs.Words.Laws.{is_nothing, target_at}
+use Rattle.sbp_world.proofs.Words.World.{handed_out, keyed, no_unit, see_line, target_sees, target_ticks, tick_line, told_seen, with_seen, refused, target_left, timed_out, holder, Scene, WorldState, with_note, with_target, AreHeldAt, AreOthers, IsCalm, managed_for, AllOf, AreOpenFor, IsToldDone, IsUp, of_rest, view, AreOpened}
 use Rattle.orb_layout.specs.declared.ask.Ask.TheVariants as asks
-use Rattle.sbp_journal.specs.Outgoings.{OutboxState, empty_outbox}
-use Rattle.sbp_laws.specs.Targets.{is_nothing, target_at}
-use Rattle.sbp_journal.specs.Run.{Moment, said}
-use Rattle.sbp_journal.specs.Transactions.{Transaction}
-use Rattle.sbp_journal.specs.Wire.{Terms, terms, times_out}
 use Rattle.sbp_journal.specs.declared.cause.CutCause.TheVariants as cuts
-use Rattle.sbp_journal.specs.declared.cause.Judged.{Judged}
 use Rattle.sbp_journal.specs.declared.cause.Judged.TheVariants as judgements
-use Rattle.sbp_journal.specs.declared.note.Note.{Note}
 use Rattle.sbp_journal.specs.declared.note.Note.TheVariants as notes
-use Rattle.sbp_target.specs.Calls.{alone, sees, ticks}
-use Rattle.sbp_target.specs.declared.purpose.Purpose.{Purpose}
-use Rattle.sbp_target.specs.Nodes.{NodeState, Scene as TargetScene, login_at, scene}
-use Rattle.sbp_target.specs.Receiving.{cleared_node, expired, expired_in, reset_by, seen, with_key}
-use Rattle.sbp_target.specs.Units.{cut_all}
-use Rattle.sbp_world.specs.Handing.{handed_out}
-use Rattle.sbp_world.specs.Lines.{keyed, no_unit}
-use Rattle.sbp_world.specs.Nodes.{see_line, target_sees, target_ticks, tick_line, told_seen, with_seen}
 use Rattle.sbp_world.specs.Nodes as nodes
-use Rattle.sbp_world.specs.Packets.{refused, target_left, timed_out}
 use Rattle.sbp_world.specs.Packets as packets
-use Rattle.sbp_world.specs.Telling.{holder}
-use Rattle.sbp_world.specs.Worlds.{Scene, WorldState, with_note, with_target}
 use Rattle.sbp_world.proofs.Wire.Nodes.{handed_alike}
 use Rattle.sbp_world.proofs.Wire.Bus.{holds}
 use Rattle.sbp_world.proofs.Wire.Starts.{laws_of}
 use Rattle.sbp_world.proofs.Agents.Management.Holding.{Holding, past_terms, was_sent}
 use Rattle.sbp_world.proofs.Agents.Management.Still.{hist}
-use Rattle.sbp_world.specs.Agents.Holders.{AreHeldAt}
-use Rattle.sbp_world.specs.Hosts.Handing.{AreOthers}
 use Rattle.sbp_world.proofs.Hosts.Hands.{second_tells, sight_tells}
 use Rattle.sbp_world.proofs.Hosts.TargetGives as gives
-use Rattle.sbp_world.specs.Lists.Needs.{IsCalm}
-use Rattle.sbp_world.specs.Lists.ManagedFor.{managed_for}
-use Rattle.sbp_world.specs.Lists.Opened.{AllOf, AreOpenFor, IsToldDone, IsUp, of_rest, view}
-use Rattle.sbp_world.specs.Lists.Opens.{AreOpened}
 use Rattle.sbp_world.proofs.Lists.Generations.{is_sight}
 use Rattle.sbp_world.proofs.Lists.OpenDeliveries.{lapse_open}
 use Rattle.sbp_world.proofs.Lists.OpenManages as manages

@@ -1,49 +1,19 @@
 -- What the target answers in a delivery leaves no agent out of RESET: as it serves the AGENT_RESET that is under way, and as it answers RESET to a read of
 -- AGENT_STATE that says something of the present list.
-use Rattle.std.proofs.Common.{arith, ◌≡◌, ◌⊎◌, inl, inr, ◌∙◌, refl, sym, ap, subst, ◌<◌, ◌≤◌, ◌+◌, ◌%◌, ◌^◌, ℕ, suc, nat_eq, Bool, true, false, cond, List, [], ◌∷◌, ◌++◌, map, Option, Some, None}
-use Rattle.std.proofs.lemmas.Bool.Decides.{nat_tests}
-use Rattle.std.proofs.lemmas.Bool.{false≢true}
-use Rattle.std.proofs.lemmas.Option.{same_Some}
-use Rattle.async_packet.specs.Packet.{Packet}
-use Rattle.bus_transactions.specs.Wire.{as_sending}
+use Rattle.sbp_world.proofs.Words.Std.{arith, ◌≡◌, ◌⊎◌, inl, inr, ◌∙◌, refl, sym, ap, subst, ◌<◌, ◌≤◌, ◌+◌, ◌%◌, ◌^◌, ℕ, suc, nat_eq, Bool, true, false, cond, List, [], ◌∷◌, ◌++◌, map, Option, Some, None, nat_tests, false≢true, same_Some}
+use Rattle.sbp_world.proofs.Words.Wire.{Packet, as_sending, Finding, judging_step, of_again, of_generation, of_grammar, of_label, of_request, of_response, Sent, found_sent, judged_note, Moment, said, Sending, Transaction, asked_by, Terms, arrives, ignores_that, is_news, judges, judges_if, terms, Cause, Judged, Note, Operation}
+use Rattle.sbp_world.proofs.Words.Target.{Disk, Told, address_error, Purpose, NodeState, judged_scene, received, received_as, with_layer, Whole, scene_of, answered, is_barred, serve}
+use Rattle.sbp_world.proofs.Words.Laws.{Underway, access_in_bytes, cuts_list, running_operation}
+use Rattle.sbp_world.proofs.Words.World.{register_read, register_write, whole_of, holder, Scene, WorldState, AreHeldAt, AreOthers, IsCalm, AllOf, AreOpenFor, IsServedReset, IsToldReset, IsUp, of_rest, view}
 use Rattle.bus_transactions.proofs.FitJudged.{found_as}
-use Rattle.label_table.specs.Layer.{Finding, judging_step, of_again, of_generation, of_grammar, of_label, of_request, of_response}
 use Rattle.label_table.proofs.Answered.{judging_stays}
-use Rattle.packet_store.specs.declared.sent.Sent.{Sent}
-use Rattle.packet_store.specs.Kept.{found_sent}
-use Rattle.rbc_disk.specs.Disk.{Disk}
-use Rattle.rbc_disk.specs.Runs.{Told}
-use Rattle.sbp_bus.specs.Packets.{judged_note}
-use Rattle.sbp_journal.specs.Run.{Moment, said}
-use Rattle.sbp_journal.specs.Transactions.{Sending, Transaction, asked_by}
-use Rattle.sbp_journal.specs.Wire.{Terms, arrives, ignores_that, is_news, judges, judges_if, terms}
-use Rattle.sbp_journal.specs.declared.cause.Cause.{Cause}
 use Rattle.sbp_journal.specs.declared.cause.Cause.TheVariants as causes
-use Rattle.sbp_journal.specs.declared.cause.Judged.{Judged}
 use Rattle.sbp_journal.specs.declared.cause.Judged.TheVariants as judgements
-use Rattle.sbp_journal.specs.declared.note.Note.{Note}
-use Rattle.sbp_journal.specs.declared.operation.Operation.{Operation}
-use Rattle.sbp_laws.specs.Hosts.{Underway}
-use Rattle.sbp_laws.specs.Packets.{access_in_bytes}
-use Rattle.sbp_world.specs.Pointers.Bases.{register_read}
-use Rattle.sbp_world.specs.Pointers.Moments.{register_write}
-use Rattle.target_base.specs.Addresses.{address_error}
 use Rattle.sbp_target.proofs.Histories.Found as looks
-use Rattle.sbp_target.specs.declared.purpose.Purpose.{Purpose}
-use Rattle.sbp_target.specs.Nodes.{NodeState}
-use Rattle.sbp_target.specs.Receiving.{judged_scene, received, received_as, with_layer}
-use Rattle.sbp_target.specs.Replies.{Whole, scene_of}
-use Rattle.sbp_target.specs.Serving.{answered, is_barred, request_step, serve}
-use Rattle.sbp_world.specs.Delivering.{whole_of}
-use Rattle.sbp_world.specs.Telling.{holder}
-use Rattle.sbp_world.specs.Worlds.{Scene, WorldState}
+use Rattle.sbp_target.specs.Serving.{request_step}
 use Rattle.sbp_world.proofs.Wire.Nodes.{handed_alike}
 use Rattle.sbp_world.proofs.Agents.Management.Holding.{Holding, ours, was_sent}
 use Rattle.sbp_world.proofs.Agents.Management.Still.{hist}
-use Rattle.sbp_world.specs.Agents.Holders.{AreHeldAt}
-use Rattle.sbp_world.specs.Hosts.Handing.{AreOthers}
-use Rattle.sbp_world.specs.Lists.Needs.{IsCalm}
-use Rattle.sbp_world.specs.Lists.Opened.{AllOf, AreOpenFor, IsServedReset, IsToldReset, IsUp, of_rest, view}
 use Rattle.sbp_world.proofs.Lists.Generations.{is_sight}
 use Rattle.sbp_world.proofs.Lists.OpenCuts.{Listing}
 use Rattle.sbp_world.proofs.Lists.OpenedAddresses.{IsBase}
@@ -59,7 +29,6 @@ use Rattle.sbp_world.proofs.Lists.OpenedStates.{IsIn, tells_not}
 use Rattle.sbp_world.proofs.Lists.OpenedTargets.{Telling}
 use Rattle.sbp_world.proofs.Lists.OpenedTurns.{Grown, IsTelling, NoneUp, Opens, WasUp}
 use Rattle.sbp_world.proofs.Lists.OpenedWorlds.{Here, Then, grown_turn, turn_is, wired}
-use Rattle.sbp_laws.specs.Actions.{cuts_list, running_operation}
 
 -- ---- what is ignored, but for the cause slot, is not served
 abbrev NotSlot : Judged → Type 0

@@ -1,19 +1,11 @@
 -- A turn of the target keeps it, for which list an agent is out of RESET, where what the target tells in it leaves no agent so.
-use Rattle.std.proofs.Common.{arith, ◌≡◌, ◌⊎◌, inl, inr, ◌∙◌, refl, sym, ap, subst, ◌<◌, ◌≤◌, ℕ, suc, nat_lt, Bool, true, false, Option, Some}
-use Rattle.std.proofs.lemmas.Bool.Decides.{nat_tests}
-use Rattle.std.proofs.lemmas.Bool.{false≢true}
-use Rattle.std.proofs.lemmas.Option.{same_Some}
-use Rattle.sbp_journal.specs.Transactions.{Sending}
-use Rattle.sbp_laws.specs.Actions.{cuts_list, running_operation}
+use Rattle.sbp_world.proofs.Words.Std.{arith, ◌≡◌, ◌⊎◌, inl, inr, ◌∙◌, refl, sym, ap, subst, ◌<◌, ◌≤◌, ℕ, suc, nat_lt, Bool, true, false, Option, Some, nat_tests, false≢true, same_Some}
+use Rattle.sbp_world.proofs.Words.Wire.{Sending, Operation}
+use Rattle.sbp_world.proofs.Words.Initiator.{start}
+use Rattle.sbp_world.proofs.Words.Laws.{cuts_list, running_operation, Underway, is_management}
+use Rattle.sbp_world.proofs.Words.World.{holder, WorldState, AreOpenFor, as_got, IsDoneBlock, IsOpenFor, IsServedReset, IsToldDone, IsToldReset, IsUp, View, IsPointedBy}
 use Rattle.bus_memory.specs.declared.window.Window.TheVariants as windows
-use Rattle.bus_memory.specs.Windows.{start}
-use Rattle.sbp_laws.specs.Hosts.{Underway, is_management}
-use Rattle.sbp_journal.specs.declared.operation.Operation.{Operation}
 use Rattle.sbp_journal.specs.declared.operation.Operation.TheVariants as operations
-use Rattle.sbp_world.specs.Telling.{holder}
-use Rattle.sbp_world.specs.Worlds.{WorldState}
-use Rattle.sbp_world.specs.Lists.Opened.{AreOpenFor, as_got, IsDoneBlock, IsOpenFor, IsServedReset, IsToldDone, IsToldReset, IsUp, View}
-use Rattle.sbp_world.specs.Lists.Opens.{IsPointedBy}
 use Rattle.sbp_world.proofs.Lists.OpenedHosts.{IsSame}
 
 abbrev pub NoneUp : WorldState → ℕ → Type 0

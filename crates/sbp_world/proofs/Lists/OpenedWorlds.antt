@@ -1,35 +1,15 @@
 -- Each turn of a world keeps it, for which list an agent is out of RESET.
-use Rattle.std.proofs.Common.{arith, ◌≡◌, ◌∙◌, refl, sym, ap, subst, ◌<◌, ◌≤◌, not, ℕ, suc, nat_lt, Bool, true, false, List, [], ◌∷◌, ◌++◌, length, map, Option, Some, None}
-use Rattle.std.proofs.lemmas.Bool.Decides.{nat_tests}
-use Rattle.std.proofs.lemmas.Bool.{false≢true}
-use Rattle.bus_transactions.specs.Packets.{SerialsCount}
-use Rattle.bus_transactions.specs.Wire.{Due, Node}
+use Rattle.sbp_world.proofs.Words.Std.{arith, ◌≡◌, ◌∙◌, refl, sym, ap, subst, ◌<◌, ◌≤◌, not, ℕ, suc, nat_lt, Bool, true, false, List, [], ◌∷◌, ◌++◌, length, map, Option, Some, None, nat_tests, false≢true}
+use Rattle.sbp_world.proofs.Words.Wire.{SerialsCount, Due, Node, Stored, holder_at, Holder, Moment, said, Sending, Terms, terms, Note}
+use Rattle.sbp_world.proofs.Words.Target.{state_in, is_reset, NodeState, desk_at}
+use Rattle.sbp_world.proofs.Words.Laws.{EachMoment, Underway, access_in_bytes}
+use Rattle.sbp_world.proofs.Words.World.{WorldState, initiator_at, Stands, AreRows, register_read, MayStand, pointer_write, register_write, turn_of, AllOf, AreOpenFor, Ends, ends_by_reset, ends_by_sight, ends_by_state, ends_by_status, EndsAt, IsToldDone, IsUp, view, IsPointedBy}
 use Rattle.bus_transactions.proofs.Stands.{DueIs, On}
-use Rattle.packet_store.specs.Stored.{Stored}
-use Rattle.command_agent.specs.Machine.{state_in}
-use Rattle.command_agent.specs.Steps.{is_reset}
-use Rattle.sbp_bus.specs.Places.{holder_at}
-use Rattle.sbp_bus.specs.declared.places.Holder.{Holder}
-use Rattle.sbp_journal.specs.Run.{Moment, said}
-use Rattle.sbp_journal.specs.Transactions.{Sending}
-use Rattle.sbp_journal.specs.Wire.{Terms, terms}
-use Rattle.sbp_journal.specs.declared.note.Note.{Note}
 use Rattle.sbp_journal.specs.declared.note.Note.TheVariants as notes
-use Rattle.sbp_laws.specs.Turns.{EachMoment}
-use Rattle.sbp_target.specs.Nodes.{NodeState, desk_at}
-use Rattle.sbp_world.specs.Worlds.{WorldState, initiator_at}
-use Rattle.sbp_world.specs.Wire.Wires.{Stands}
 use Rattle.sbp_world.proofs.Wire.Bus.{holds}
 use Rattle.sbp_world.proofs.Agents.Management.Holding.{past_terms}
 use Rattle.sbp_world.proofs.Agents.Management.Still.{hist}
-use Rattle.sbp_world.specs.Hosts.Fits.{AreRows}
-use Rattle.sbp_world.specs.Pointers.Bases.{register_read}
-use Rattle.sbp_world.specs.Pointers.Moments.{MayStand, pointer_write, register_write, turn_of}
-use Rattle.sbp_laws.specs.Hosts.{Underway}
-use Rattle.sbp_laws.specs.Packets.{access_in_bytes}
 use Rattle.sbp_journal.specs.declared.operation.Operation.TheVariants as operations
-use Rattle.sbp_world.specs.Lists.Opened.{AllOf, AreOpenFor, Ends, ends_by_reset, ends_by_sight, ends_by_state, ends_by_status, EndsAt, IsToldDone, IsUp, view}
-use Rattle.sbp_world.specs.Lists.Opens.{IsPointedBy}
 use Rattle.sbp_world.proofs.Lists.Joins.{Begins}
 use Rattle.sbp_world.proofs.Lists.OpenFresh.{Writes}
 use Rattle.sbp_world.proofs.Lists.OpenedAside.{IsOthers, aside}

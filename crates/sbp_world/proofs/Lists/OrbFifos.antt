@@ -1,16 +1,10 @@
 -- The FIFO of a management ORB is one of its place or of a login, and in no response buffer.
-use Rattle.std.proofs.Common.{arith, ◌≡◌, ℕ, ◌^◌, ◌≤◌, nat_le, Bool, true, false, cond, List, Some, None}
-use Rattle.std.proofs.lemmas.Bool.Decides.{nat_tests}
-use Rattle.bus_memory.specs.declared.window.Window.{Window}
+use Rattle.sbp_world.proofs.Words.Std.{arith, ◌≡◌, ℕ, ◌^◌, ◌≤◌, nat_le, Bool, true, false, cond, List, Some, None, nat_tests}
+use Rattle.sbp_world.proofs.Words.Wire.{SerialsCount, Moment, Sending, terms}
+use Rattle.sbp_world.proofs.Words.Initiator.{Window, window_at, within, ManagementOrb}
+use Rattle.sbp_world.proofs.Words.Laws.{Underway, host_at, is_management}
+use Rattle.sbp_world.proofs.Words.World.{OperationsLast, underway_orb}
 use Rattle.bus_memory.specs.declared.window.Window.TheVariants as windows
-use Rattle.bus_memory.specs.Windows.{window_at, within}
-use Rattle.bus_transactions.specs.Packets.{SerialsCount}
-use Rattle.orb_layout.specs.declared.management.ManagementOrb.{ManagementOrb}
-use Rattle.sbp_journal.specs.Run.{Moment}
-use Rattle.sbp_journal.specs.Transactions.{Sending}
-use Rattle.sbp_journal.specs.Wire.{terms}
-use Rattle.sbp_laws.specs.Hosts.{Underway, host_at, is_management}
-use Rattle.sbp_world.specs.Lists.Underway.{OperationsLast, underway_orb}
 use Rattle.sbp_world.proofs.Lists.ManageTerms.{none_is}
 
 -- ---- the FIFO of an ORB

@@ -1,15 +1,10 @@
 -- Each agent of the terms of the target has an ORB that a response brought: what is known of its machine, by its place, which each step of an agent keeps.
-use Rattle.std.proofs.Common.{◌≡◌, ℕ, true, List, Ok, Err}
+use Rattle.sbp_world.proofs.Words.Std.{◌≡◌, ℕ, true, List, Ok, Err}
+use Rattle.sbp_world.proofs.Words.Target.{Which, Ahead, Main, Machine, aligned, is_ahead, new_machine}
+use Rattle.sbp_world.proofs.Words.Initiator.{CommandOrb, At, command_orb, Expired, payload_of}
+use Rattle.sbp_world.proofs.Words.Laws.{Reply, Target, over}
 use Rattle.command_agent.specs.declared.phase.Phase.TheVariants as phases
-use Rattle.command_agent.specs.declared.step.Which.{Which}
-use Rattle.command_agent.specs.declared.step.Which.TheVariants.{Ahead, Main}
-use Rattle.command_agent.specs.Machine.{Machine, aligned, is_ahead, new_machine}
 use Rattle.orb_layout.specs.declared.ask.FailCause.TheVariants as causes
-use Rattle.orb_layout.specs.declared.command.CommandOrb.{CommandOrb}
-use Rattle.orb_layout.specs.declared.pointer.OrbPointer.TheVariants.{At}
-use Rattle.orb_layout.specs.CommandOrbs.{command_orb}
-use Rattle.orb_layout.specs.Replies.{Expired, payload_of}
-use Rattle.sbp_laws.specs.Targets.{Reply, Target, over}
 use Rattle.sbp_world.proofs.Lists.FedFolds.{AreSo, AreStill, IsKept, Pends, over_still}
 use Rattle.sbp_world.proofs.Lists.OrbSteps.{Reads, abort_reads, bell_reads, lost_steps, new_reads, point_reads, reply_steps, reset_reads}
 use Rattle.sbp_world.proofs.Common.{untrue}

@@ -1,22 +1,13 @@
 -- As a line begins that delivers a packet, what the packet brings to an agent was brought.
-use Rattle.std.proofs.Common.{◌≡◌, ◌∙◌, refl, sym, ap, subst, ℕ, Bool, true, false, List, [], ◌∷◌, ◌++◌, Option, Some, None, Ok}
-use Rattle.sbp_world.specs.Agents.AskedRuns.{HasAsked, serial_of}
+use Rattle.sbp_world.proofs.Words.Std.{◌≡◌, ◌∙◌, refl, sym, ap, subst, ℕ, Bool, true, false, List, [], ◌∷◌, ◌++◌, Option, Some, None, Ok}
+use Rattle.sbp_world.proofs.Words.Wire.{Moment, asked, said, Part, Sending, part_of, request, response, Terms, opened, terms, Event}
+use Rattle.sbp_world.proofs.Words.Target.{Disk}
+use Rattle.sbp_world.proofs.Words.Initiator.{Read, CommandOrb, payload_of}
+use Rattle.sbp_world.proofs.Words.Laws.{fifo_in, answer_in, answered_as, answered_at, answered_in, packet_at, receiver_in, Target, agent_at, initiator_at, is_serial, login_at, over, target_at}
+use Rattle.sbp_world.proofs.Words.World.{HasAsked, serial_of, WorldState, without_notes, initiator_in, machine_at, IsBrought}
 use Rattle.sbp_world.proofs.Agents.Management.Still.{hist}
-use Rattle.orb_layout.specs.declared.ask.Ask.TheVariants.{Read}
-use Rattle.orb_layout.specs.declared.command.CommandOrb.{CommandOrb}
-use Rattle.orb_layout.specs.Replies.{payload_of}
-use Rattle.rbc_disk.specs.Disk.{Disk}
-use Rattle.sbp_journal.specs.Run.{Moment, asked, said}
-use Rattle.sbp_journal.specs.Transactions.{Part, Sending, no_packet, part_of, request, response}
-use Rattle.sbp_journal.specs.Wire.{Terms, opened, terms}
-use Rattle.sbp_journal.specs.declared.event.Event.{Event}
+use Rattle.sbp_journal.specs.Transactions.{no_packet}
 use Rattle.sbp_journal.specs.declared.note.Note.TheVariants as notes
-use Rattle.sbp_laws.specs.Agents.{fifo_in}
-use Rattle.sbp_laws.specs.Packets.{answer_in, answered_as, answered_at, answered_in, packet_at, receiver_in}
-use Rattle.sbp_laws.specs.Targets.{Target, agent_at, initiator_at, is_serial, login_at, over, target_at}
-use Rattle.sbp_world.specs.Worlds.{WorldState, without_notes}
-use Rattle.sbp_world.specs.Lists.Needs.{initiator_in, machine_at}
-use Rattle.sbp_world.specs.Lists.OrbReads.{IsBrought}
 use Rattle.sbp_world.proofs.Lists.Calm.{asked_calm}
 use Rattle.sbp_world.proofs.Lists.OrbPlaces.{HasReads}
 use Rattle.sbp_world.proofs.Lists.OrbReading.{brought_more, reads_more}

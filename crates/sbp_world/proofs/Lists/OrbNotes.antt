@@ -1,14 +1,10 @@
 -- What each note makes of the agents of the terms of the target, which have ORBs that responses brought.
-use Rattle.std.proofs.Common.{◌≡◌, refl, ℕ, Bool, true, false, cond, List, Option, Some, None}
-use Rattle.std.specs.Prelude.{unwrap_or}
-use Rattle.command_agent.specs.declared.step.Which.{Which}
-use Rattle.orb_layout.specs.declared.command.CommandOrb.{CommandOrb}
-use Rattle.sbp_journal.specs.Run.{Moment}
-use Rattle.sbp_journal.specs.Wire.{Terms}
-use Rattle.sbp_journal.specs.declared.note.Note.{Note}
+use Rattle.sbp_world.proofs.Words.Std.{◌≡◌, refl, ℕ, Bool, true, false, cond, List, Option, Some, None, unwrap_or}
+use Rattle.sbp_world.proofs.Words.Wire.{Moment, Terms, Note}
+use Rattle.sbp_world.proofs.Words.Target.{Which}
+use Rattle.sbp_world.proofs.Words.Initiator.{CommandOrb}
+use Rattle.sbp_world.proofs.Words.Laws.{access_at, answer_in, answered_at, id_for, packet_at, receiver_in, sender_in, Target, agent_at, for_agent, got_by, is_serial, over, purpose_of, target_by}
 use Rattle.sbp_journal.specs.declared.note.Note.TheVariants as notes
-use Rattle.sbp_laws.specs.Packets.{access_at, answer_in, answered_at, id_for, packet_at, receiver_in, sender_in}
-use Rattle.sbp_laws.specs.Targets.{Target, agent_at, for_agent, got_by, is_serial, over, purpose_of, target_by}
 use Rattle.sbp_world.proofs.Lists.FedFolds.{so}
 use Rattle.sbp_world.proofs.Lists.FedNotes as machines
 use Rattle.sbp_world.proofs.Lists.FedNotes.{request_kept, to_purpose}

@@ -1,35 +1,15 @@
 -- At a place of a run the agent of the target has an ORB that a response brought; and so has it what a packet brings to it that it gets.
-use Rattle.std.proofs.Common.{◌≡◌, ◌∙◌, sym, ap, subst, ◌<◌, ◌==◌, ℕ, suc, Bool, true, false, List, ◌∷◌, Some}
-use Rattle.std.proofs.lemmas.Option.{same_Some}
-use Rattle.async_packet.specs.Labels.{LabelParts}
-use Rattle.async_packet.specs.Packet.{Packet, header_in}
-use Rattle.command_agent.specs.declared.step.Which.{Which}
-use Rattle.command_agent.specs.Machine.{Machine}
-use Rattle.label_table.specs.Layer.{judging_step, of_response}
-use Rattle.orb_layout.specs.declared.command.CommandOrb.{CommandOrb}
-use Rattle.orb_layout.specs.CommandOrbs.{command_orb}
-use Rattle.orb_layout.specs.Replies.{Answer, payload_of}
-use Rattle.packet_store.specs.declared.sent.Sent.{Sent}
-use Rattle.packet_store.specs.Kept.{found_sent}
-use Rattle.rbc_disk.specs.Disk.{Disk}
-use Rattle.sbp_journal.specs.Run.{Moment, said}
-use Rattle.sbp_journal.specs.Wire.{Terms, terms}
+use Rattle.sbp_world.proofs.Words.Std.{◌≡◌, ◌∙◌, sym, ap, subst, ◌<◌, ◌==◌, ℕ, suc, Bool, true, false, List, ◌∷◌, Some, same_Some}
+use Rattle.sbp_world.proofs.Words.Wire.{LabelParts, Packet, header_in, judging_step, of_response, Sent, found_sent, Moment, said, Terms, terms}
+use Rattle.sbp_world.proofs.Words.Target.{Which, Machine, Disk, which_in, desk_at, answer_in}
+use Rattle.sbp_world.proofs.Words.Initiator.{CommandOrb, command_orb, Answer, payload_of}
+use Rattle.sbp_world.proofs.Words.Laws.{answered_at, receiver_in, Target, agent_at, is_serial, over, target_at, EachMoment}
+use Rattle.sbp_world.proofs.Words.World.{WorldState, Alike, has_list, serial_of, IsCalm, initiator_in, is_open_at, machine_at, AskedAsGot, IsBrought}
 use Rattle.sbp_journal.specs.declared.note.Note.TheVariants as notes
-use Rattle.sbp_laws.specs.Packets.{answered_at, receiver_in}
 use Rattle.sbp_laws.specs.Packets as laws
-use Rattle.sbp_laws.specs.Targets.{Target, agent_at, is_serial, over, target_at}
-use Rattle.sbp_laws.specs.Turns.{EachMoment}
 use Rattle.sbp_target.specs.declared.purpose.Purpose.TheVariants as purposes
-use Rattle.sbp_target.specs.Desks.{which_in}
-use Rattle.sbp_target.specs.Nodes.{desk_at}
-use Rattle.sbp_target.specs.Receiving.{answer_in}
-use Rattle.sbp_world.specs.Worlds.{WorldState}
-use Rattle.sbp_world.specs.Agents.Alike.{Alike, has_list}
-use Rattle.sbp_world.specs.Agents.AskedRuns.{serial_of}
 use Rattle.sbp_world.proofs.Agents.Management.Holding.{Holding, was_sent}
 use Rattle.sbp_world.proofs.Agents.Management.Still.{hist}
-use Rattle.sbp_world.specs.Lists.Needs.{IsCalm, initiator_in, is_open_at, machine_at}
-use Rattle.sbp_world.specs.Lists.OrbReads.{AskedAsGot, IsBrought}
 use Rattle.sbp_world.proofs.Lists.Heard.{closed, request_to, tells, waiting, waits_so}
 use Rattle.sbp_world.proofs.Lists.OrbFolds.{Brings, over_reads}
 use Rattle.sbp_world.proofs.Lists.OrbReading.{brings, reading}

@@ -1,33 +1,15 @@
 -- At each moment of a history, before which the agents of the terms of the target waited for what they asked for as packets were got, each agent has an ORB that a response brought.
-use Rattle.std.proofs.Common.{◌≡◌, ◌∙◌, refl, sym, ap, subst, ◌<◌, ℕ, Bool, true, false, List, [], ◌∷◌, Some, Ok}
-use Rattle.agent_laws.specs.Along.Requests.{ahead_ask, main_ask}
-use Rattle.sbp_world.specs.Agents.AskedRuns.{AreAskedAt, HasAsked, serial_of}
+use Rattle.sbp_world.proofs.Words.Std.{◌≡◌, ◌∙◌, refl, sym, ap, subst, ◌<◌, ℕ, Bool, true, false, List, [], ◌∷◌, Some, Ok}
+use Rattle.sbp_world.proofs.Words.Wire.{Moment, asked, said, Terms, terms, Note}
+use Rattle.sbp_world.proofs.Words.Target.{ahead_ask, main_ask, ReadAhead, Which, Ahead, Main, Machine, aligned, is_ahead, writes_status, Disk}
+use Rattle.sbp_world.proofs.Words.Initiator.{Ask, Read, CommandOrb, OrbPointer, At, command_orb, payload_of}
+use Rattle.sbp_world.proofs.Words.Laws.{fifo_in, answer_in, answered_at, packet_at, receiver_in, Agent, Target, agent_at, initiator_at, is_serial, known_at, login_at, over, target_at, EachMoment}
+use Rattle.sbp_world.proofs.Words.World.{AreAskedAt, HasAsked, serial_of, AskedAsGot, IsBrought}
 use Rattle.sbp_world.proofs.Lists.FedFolds.{so}
 use Rattle.sbp_world.proofs.Agents.Management.Firsts.{wire_is}
 use Rattle.command_agent.specs.declared.phase.Phase.TheVariants as phases
-use Rattle.command_agent.specs.declared.phase.ReadAhead.{ReadAhead}
 use Rattle.command_agent.specs.declared.phase.ReadAhead.TheVariants as aheads
-use Rattle.command_agent.specs.declared.step.Which.{Which}
-use Rattle.command_agent.specs.declared.step.Which.TheVariants.{Ahead, Main}
-use Rattle.command_agent.specs.Machine.{Machine, aligned, is_ahead}
-use Rattle.command_agent.specs.Tasks.{writes_status}
-use Rattle.orb_layout.specs.declared.ask.Ask.{Ask}
-use Rattle.orb_layout.specs.declared.ask.Ask.TheVariants.{Read}
-use Rattle.orb_layout.specs.declared.command.CommandOrb.{CommandOrb}
-use Rattle.orb_layout.specs.declared.pointer.OrbPointer.{OrbPointer}
-use Rattle.orb_layout.specs.declared.pointer.OrbPointer.TheVariants.{At}
-use Rattle.orb_layout.specs.CommandOrbs.{command_orb}
-use Rattle.orb_layout.specs.Replies.{payload_of}
-use Rattle.rbc_disk.specs.Disk.{Disk}
-use Rattle.sbp_journal.specs.Run.{Moment, asked, said}
-use Rattle.sbp_journal.specs.Wire.{Terms, terms}
-use Rattle.sbp_journal.specs.declared.note.Note.{Note}
 use Rattle.sbp_journal.specs.declared.note.Note.TheVariants as notes
-use Rattle.sbp_laws.specs.Agents.{fifo_in}
-use Rattle.sbp_laws.specs.Packets.{answer_in, answered_at, packet_at, receiver_in}
-use Rattle.sbp_laws.specs.Targets.{Agent, Target, agent_at, initiator_at, is_serial, known_at, login_at, over, target_at}
-use Rattle.sbp_laws.specs.Turns.{EachMoment}
-use Rattle.sbp_world.specs.Lists.OrbReads.{AskedAsGot, IsBrought}
 use Rattle.sbp_world.proofs.Lists.ManageTerms.{none_is}
 use Rattle.sbp_world.proofs.Lists.AgentFolds.{new_there}
 use Rattle.sbp_world.proofs.Lists.OrbFolds.{AreReading, Brings, Has, over_reads}

@@ -1,33 +1,16 @@
 -- At each place of a run the agents of the target waited for what they asked for as each packet was got; so each agent has an ORB that a response brought.
-use Rattle.std.proofs.Common.{◌≡◌, ◌∙◌, refl, sym, ap, subst, ◌<◌, ℕ, Bool, true, false, List, [], ◌∷◌, ◌++◌, map, Option, Some, None}
-use Rattle.sbp_world.specs.Agents.AskedRuns.{AreAskedAt, HasAsked, WaitsForAsked, serial_of}
+use Rattle.sbp_world.proofs.Words.Std.{◌≡◌, ◌∙◌, refl, sym, ap, subst, ◌<◌, ℕ, Bool, true, false, List, [], ◌∷◌, ◌++◌, map, Option, Some, None}
+use Rattle.sbp_world.proofs.Words.Wire.{end_note, Moment, asked, said, Transaction, Terms, terms, Event, Note}
+use Rattle.sbp_world.proofs.Words.Target.{Which, Disk, Told}
+use Rattle.sbp_world.proofs.Words.Initiator.{Ask, Nothing}
+use Rattle.sbp_world.proofs.Words.Laws.{fifo_in, begun_in, waits_for, Agent, Reply, Target, agent_at, agent_over, for_agent, initiator_at, login_at, over, purpose_of, taken_on, target_at, EachMoment}
+use Rattle.sbp_world.proofs.Words.World.{AreAskedAt, HasAsked, WaitsForAsked, serial_of, more_deliveries, MayHappen, happens, ready_logins, is_in_flight, may_repeat, MayNext, delivered_at, delivered_next, lowest, Scene, WorldState, begun, without_notes, AskedAsGot, IsBrought}
 use Rattle.sbp_world.proofs.Agents.AskedRuns.{asked_between_law, asked_run_law}
 use Rattle.sbp_world.proofs.Agents.Management.Still.{hist}
-use Rattle.command_agent.specs.declared.step.Which.{Which}
-use Rattle.sbp_world.specs.Hosts.Runs.{more_deliveries}
-use Rattle.orb_layout.specs.declared.ask.Ask.{Ask}
-use Rattle.orb_layout.specs.declared.ask.Ask.TheVariants.{Nothing}
 use Rattle.orb_layout.specs.declared.ask.FailCause.TheVariants as causes
-use Rattle.rbc_disk.specs.Disk.{Disk}
-use Rattle.rbc_disk.specs.Runs.{Told}
-use Rattle.sbp_bus.specs.Packets.{end_note}
-use Rattle.sbp_journal.specs.Run.{Moment, asked, said}
-use Rattle.sbp_journal.specs.Transactions.{Transaction}
-use Rattle.sbp_journal.specs.Wire.{Terms, terms}
-use Rattle.sbp_journal.specs.declared.event.Event.{Event}
 use Rattle.sbp_journal.specs.declared.event.Event.TheVariants as events
-use Rattle.sbp_journal.specs.declared.note.Note.{Note}
 use Rattle.sbp_journal.specs.declared.note.Note.TheVariants as notes
-use Rattle.sbp_laws.specs.Agents.{fifo_in}
-use Rattle.sbp_laws.specs.Packets.{begun_in, waits_for}
-use Rattle.sbp_laws.specs.Targets.{Agent, Reply, Target, agent_at, agent_over, for_agent, initiator_at, login_at, over, purpose_of, taken_on, target_at}
-use Rattle.sbp_laws.specs.Turns.{EachMoment}
-use Rattle.sbp_world.specs.Lines.{MayHappen, happens}
-use Rattle.sbp_world.specs.Making.{ready_logins}
-use Rattle.sbp_world.specs.Packets.{is_in_flight, may_repeat}
-use Rattle.sbp_world.specs.Settling.{MayAt, MayNext, delivered_at, delivered_next, lowest}
-use Rattle.sbp_world.specs.Worlds.{Scene, WorldState, begun, without_notes}
-use Rattle.sbp_world.specs.Lists.OrbReads.{AskedAsGot, IsBrought}
+use Rattle.sbp_world.specs.Settling.{MayAt}
 use Rattle.sbp_world.proofs.Lists.Courses.{EveryPlace, Goes, Keeps, at_between, at_lines, by_delivery, by_end, by_line, by_start, more_than_one}
 use Rattle.sbp_world.proofs.Lists.OrbFolds.{AreReading}
 use Rattle.sbp_world.proofs.Lists.OrbReading.{reading}

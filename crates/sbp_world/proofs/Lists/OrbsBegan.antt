@@ -1,26 +1,13 @@
 -- The line of a run in which an operation began: behind it none has judged its first request.
-use Rattle.std.proofs.Common.{arith, ◌≡◌, ◌∙◌, refl, sym, ap, subst, ℕ, ◌+◌, ◌^◌, ◌<◌, ◌≤◌, nat_le, Bool, true, false, List, [], ◌∷◌, ◌++◌, map, length, Option, Some, append_assoc}
-use Rattle.std.proofs.lemmas.Bool.Decides.{nat_tests}
-use Rattle.bus_transactions.specs.Packets.{SerialsCount}
-use Rattle.rbc_disk.specs.Runs.{Told}
-use Rattle.sbp_journal.specs.declared.event.Action.{Action}
-use Rattle.sbp_journal.specs.declared.event.Event.{Event}
+use Rattle.sbp_world.proofs.Words.Std.{arith, ◌≡◌, ◌∙◌, refl, sym, ap, subst, ℕ, ◌+◌, ◌^◌, ◌<◌, ◌≤◌, nat_le, Bool, true, false, List, [], ◌∷◌, ◌++◌, map, length, Option, Some, append_assoc, nat_tests}
+use Rattle.sbp_world.proofs.Words.Wire.{SerialsCount, Action, Event, Note, Moment, asked, said, terms}
+use Rattle.sbp_world.proofs.Words.Target.{Told}
+use Rattle.sbp_world.proofs.Words.Laws.{Underway, host_at, event_of}
+use Rattle.sbp_world.proofs.Words.World.{moments_behind, happens, AreEntries, Entry, Run, after, beginning, AreLines, Scene, without_notes, OpenBefore, OperationsLast}
 use Rattle.sbp_journal.specs.declared.event.Event.TheVariants as events
-use Rattle.sbp_journal.specs.declared.note.Note.{Note}
 use Rattle.sbp_journal.specs.declared.note.Note.TheVariants as notes
-use Rattle.sbp_journal.specs.Run.{Moment, asked, said}
-use Rattle.sbp_journal.specs.Wire.{terms}
-use Rattle.sbp_laws.specs.Hosts.{Underway, host_at}
-use Rattle.sbp_laws.specs.Turns.{event_of}
-use Rattle.sbp_world.specs.Histories.{moments_behind}
-use Rattle.sbp_world.specs.Lines.{happens}
-use Rattle.sbp_world.specs.Runs.{AreEntries, Entry, Run, after, beginning}
-use Rattle.sbp_world.specs.Wire.Lines.{AreLines}
-use Rattle.sbp_world.specs.Worlds.{Scene, without_notes}
 use Rattle.sbp_world.proofs.Hosts.Carries.{IsNoAct}
 use Rattle.sbp_world.proofs.Hosts.SentMoments.{serials_from}
-use Rattle.sbp_world.specs.Lists.Needs.{OpenBefore}
-use Rattle.sbp_world.specs.Lists.Underway.{OperationsLast}
 use Rattle.sbp_world.proofs.Lists.OpenNews.{opened_same}
 use Rattle.sbp_world.proofs.Lists.OrbsFresh.{N, acts, unsent}
 use Rattle.sbp_world.proofs.Lists.UnderwayHosts.{Had, note_keeps, sent_keeps}

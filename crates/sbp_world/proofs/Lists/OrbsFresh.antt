@@ -1,30 +1,15 @@
 -- A packet that is not sent yet was not judged, and an action of an initiator judges none.
-use Rattle.std.proofs.Common.{arith, ◌≡◌, ◌∙◌, refl, ap, ℕ, ◌+◌, ◌<◌, nat_eq, Bool, true, false, cond, List, [], ◌∷◌, Option, Some, None}
-use Rattle.std.proofs.lemmas.Bool.Decides.{nat_tests}
-use Rattle.bus_transactions.specs.Packets.{SerialsCount}
-use Rattle.sbp_bus.specs.Generations.{node_of}
-use Rattle.sbp_initiator.specs.Acting.{act_step}
-use Rattle.sbp_initiator.specs.Effects.{Turn}
-use Rattle.sbp_journal.specs.declared.cause.Cause.{Cause}
+use Rattle.sbp_world.proofs.Words.Std.{arith, ◌≡◌, ◌∙◌, refl, ap, ℕ, ◌+◌, ◌<◌, nat_eq, Bool, true, false, cond, List, [], ◌∷◌, Option, Some, None, nat_tests}
+use Rattle.sbp_world.proofs.Words.Wire.{SerialsCount, node_of, Cause, Action, Outgoing, Side, empty_outbox, Moment, asked, said, Sending, asked_by, is_to, part_of, Terms, arrives, begun_in, gets, ignores, ignores_that, is_news, is_served, terms, LabelParts}
+use Rattle.sbp_world.proofs.Words.Initiator.{act_step, Turn}
+use Rattle.sbp_world.proofs.Words.World.{acted, acted_by, weight_in, under_way, posted, sent, sent_all, sent_to, told, told_all, WorldState, initiator_at, with_initiator}
 use Rattle.sbp_journal.specs.declared.cause.Cause.TheVariants as causes
-use Rattle.sbp_journal.specs.declared.event.Action.{Action}
 use Rattle.sbp_journal.specs.declared.note.Note.TheVariants as notes
-use Rattle.sbp_journal.specs.declared.outbox.Outgoing.{Outgoing}
-use Rattle.sbp_journal.specs.declared.side.Side.{Side}
 use Rattle.sbp_journal.specs.declared.side.Side.TheVariants as sides
-use Rattle.sbp_journal.specs.Outgoings.{empty_outbox}
-use Rattle.sbp_journal.specs.Run.{Moment, asked, said}
-use Rattle.sbp_journal.specs.Transactions.{Sending, asked_by, is_to, part_of}
-use Rattle.sbp_journal.specs.Wire.{Terms, arrives, begun_in, gets, ignores, ignores_that, is_news, is_served, terms}
-use Rattle.sbp_world.specs.Lines.{acted, acted_by, weight_in}
-use Rattle.sbp_world.specs.Sending.{asked as under_way, posted, sent, sent_all, sent_to}
-use Rattle.sbp_world.specs.Telling.{told, told_all}
-use Rattle.sbp_world.specs.Worlds.{WorldState, initiator_at, with_initiator}
 use Rattle.sbp_world.proofs.InitiatorForms as own
 use Rattle.sbp_world.proofs.Formed.{AreOwn}
 use Rattle.sbp_world.proofs.Agents.Management.Owned.{leaves_all}
 use Rattle.sbp_world.proofs.Agents.Management.Still.{hist}
-use Rattle.async_packet.specs.Labels.{LabelParts}
 use Rattle.sbp_world.proofs.Hosts.Remaining.{gets_same as got_same, ignores_that_same, opened_same as opens_same, times_out_same as late_same}
 use Rattle.sbp_world.proofs.Hosts.SentMoments.{count_now, sent_now}
 use Rattle.sbp_world.proofs.Lists.OpenNews.{judges_if_same, opened_same, sends_same, times_out_same}

@@ -1,16 +1,12 @@
 -- A response that the target takes for one to its management is the one to the request that the management waits for, by the history, from the node of the
 -- operation, and tells the laws what it tells the target.
-use Rattle.std.proofs.Common.{arith, ◌≡◌, ◌∙◌, refl, sym, ap, subst, ◌<◌, ◌==◌, ◌&&◌, ℕ, suc, nat_eq, not, Bool, true, false, cond, is_some, List, ◌∷◌, Option, Some, None}
-use Rattle.std.proofs.lemmas.Bool.Decides.{nat_tests}
-use Rattle.std.proofs.lemmas.Option.{same_Some}
-use Rattle.async_packet.specs.Labels.{LabelParts}
-use Rattle.async_packet.specs.Fields.{rcode_of}
-use Rattle.async_packet.specs.Packet.{Packet, header_in, lock, lock_response, read_block, read_block_response, read_quadlet, read_quadlet_response, write_block, write_quadlet, write_response}
+use Rattle.sbp_world.proofs.Words.Std.{arith, ◌≡◌, ◌∙◌, refl, sym, ap, subst, ◌<◌, ◌==◌, ◌&&◌, ℕ, suc, nat_eq, not, Bool, true, false, cond, is_some, List, ◌∷◌, Option, Some, None, nat_tests, same_Some}
+use Rattle.sbp_world.proofs.Words.Wire.{LabelParts, rcode_of, Packet, header_in, lock, lock_response, read_block, read_block_response, read_quadlet, read_quadlet_response, write_block, write_quadlet, write_response, AnswerLaw, AnswersWaiting, IsAwaited, shape, Due, Node, as_sending, transaction, Finding, Layer, judging_step, of_response, state_for, is_write, reply_kind, Sent, found_kept, found_sent, Stored, Moment, said, Sending, Transaction, between, is_same_kind, part_of, response, Terms, terms, waits}
+use Rattle.sbp_world.proofs.Words.Target.{Operation, source_in, Disk, Purpose, answer_in, IsUnderWay, TransactionLaw}
+use Rattle.sbp_world.proofs.Words.Initiator.{management_orb, FailCause, Answer, Done, Payload, Refused, write_failure}
+use Rattle.sbp_world.proofs.Words.Laws.{id_for, receiver_in, bytes_in, is_serial, target_at}
+use Rattle.sbp_world.proofs.Words.World.{WorldState, Stands, NoneInjected, last_read, read_by, read_for, read_if, read_in, IsCalm}
 use Rattle.async_packet.specs.Spells as spelled_packets
-use Rattle.bus_transactions.specs.Answers.{AnswerLaw, AnswersWaiting}
-use Rattle.bus_transactions.specs.Reached.{IsAwaited}
-use Rattle.bus_transactions.specs.Rows.{shape}
-use Rattle.bus_transactions.specs.Wire.{Due, Node, as_sending, transaction}
 use Rattle.bus_transactions.proofs.AnswerLaws.{answers_always}
 use Rattle.bus_transactions.proofs.Facts.{IsAsked}
 use Rattle.bus_transactions.proofs.FitJudged as fit_judged
@@ -20,33 +16,12 @@ use Rattle.bus_transactions.proofs.Stands.{On, due_transaction}
 use Rattle.bus_transactions.proofs.Reaches.{goes_on}
 use Rattle.bus_transactions.proofs.PacketParts.{part_read}
 use Rattle.label_table.specs.declared.place.LabelState.TheVariants as states
-use Rattle.label_table.specs.Layer.{Finding, Layer, judging_step, of_response}
-use Rattle.label_table.specs.Peers.{state_for}
-use Rattle.label_table.specs.Requests.{is_write, reply_kind}
-use Rattle.mgmt_agent.specs.declared.operation.Operation.{Operation}
 use Rattle.mgmt_agent.specs.declared.operation.Phase.TheVariants as phases
-use Rattle.mgmt_agent.specs.Machine.{Machine, source_in}
-use Rattle.orb_layout.specs.ManagementOrbs.{management_orb}
-use Rattle.orb_layout.specs.declared.ask.FailCause.{FailCause}
-use Rattle.orb_layout.specs.Replies.{Answer, Done, Payload, Refused, write_failure}
-use Rattle.packet_store.specs.declared.sent.Sent.{Sent}
-use Rattle.packet_store.specs.Kept.{found as found_kept, found_sent}
-use Rattle.packet_store.specs.Stored.{Stored}
-use Rattle.rbc_disk.specs.Disk.{Disk}
+use Rattle.mgmt_agent.specs.Machine.{Machine}
 use Rattle.sbp_journal.specs.declared.note.Note.TheVariants as notes
-use Rattle.sbp_journal.specs.Run.{Moment, said}
-use Rattle.sbp_journal.specs.Transactions.{Sending, Transaction, between, is_same_kind, part_of, response}
-use Rattle.sbp_journal.specs.Wire.{Terms, terms, waits}
 use Rattle.sbp_laws.specs.Packets as laws
-use Rattle.sbp_laws.specs.Packets.{id_for, receiver_in}
-use Rattle.sbp_laws.specs.Targets.{bytes_in, is_serial, target_at}
-use Rattle.sbp_target.specs.declared.purpose.Purpose.{Purpose}
 use Rattle.sbp_target.specs.declared.purpose.Purpose.TheVariants as purposes
-use Rattle.sbp_target.specs.Receiving.{answer_in}
-use Rattle.sbp_world.specs.Worlds.{WorldState}
-use Rattle.sbp_world.specs.Wire.Wires.{Stands}
 use Rattle.sbp_world.proofs.Wire.Bus.{holds}
-use Rattle.sbp_target.specs.Histories.Transactions.{IsUnderWay, TransactionLaw}
 use Rattle.sbp_target.proofs.Histories.Calling.{Good}
 use Rattle.sbp_target.proofs.Histories.Found.{IsFound, IsRead, found as found_as}
 use Rattle.sbp_target.proofs.Histories.Primitives.{Closing, closing_known}
@@ -57,9 +32,6 @@ use Rattle.sbp_world.proofs.Agents.Management.Hearing.{IsAnswer, label_number, r
 use Rattle.sbp_world.proofs.Agents.Management.Holding.{Holding, is_of, past_terms, same_id, was_sent}
 use Rattle.sbp_world.proofs.Agents.Management.Still.{hist}
 use Rattle.sbp_world.proofs.Agents.Purposes.{Waits, g, held_waits, labels, law}
-use Rattle.sbp_world.specs.Hosts.Carrying.{NoneInjected}
-use Rattle.sbp_world.specs.Lists.CarriedOrbs.{last_read, read_by, read_for, read_if, read_in}
-use Rattle.sbp_world.specs.Lists.Needs.{IsCalm}
 use Rattle.sbp_world.specs.Lists.ReadOrbs.{IsAnswered}
 use Rattle.sbp_world.proofs.Lists.Heard.{Owned, Spells, awaited_to, same_kind, spells, stored_by}
 use Rattle.sbp_world.proofs.Agents.Handed.{is_its_serial}

@@ -1,42 +1,20 @@
 -- Where one management operation of an initiator is in hand at a time, the target reads the ORB of the one that is under way.
-use Rattle.std.proofs.Common.{arith, ◌≡◌, ◌∙◌, refl, sym, ap, subst, ℕ, suc, ◌<◌, ◌≤◌, nat_le, Bool, true, false, List, [], ◌∷◌, ◌++◌, map, length, Option, Some, None, append_assoc}
-use Rattle.std.proofs.lemmas.Bool.Decides.{nat_tests}
-use Rattle.std.proofs.lemmas.Option.{same_Some}
+use Rattle.sbp_world.proofs.Words.Std.{arith, ◌≡◌, ◌∙◌, refl, sym, ap, subst, ℕ, suc, ◌<◌, ◌≤◌, nat_le, Bool, true, false, List, [], ◌∷◌, ◌++◌, map, length, Option, Some, None, append_assoc, nat_tests, same_Some}
+use Rattle.sbp_world.proofs.Words.Wire.{SerialsCount, transaction, Event, Moment, asked, said, Part, Sending, Transaction, asked_as, asked_by, begun_by, begun_if, between, part_of, request, Terms, terms}
+use Rattle.sbp_world.proofs.Words.Target.{Operation, source_in, Disk, Told}
+use Rattle.sbp_world.proofs.Words.Initiator.{start_of}
+use Rattle.sbp_world.proofs.Words.Laws.{Underway, host_at, is_management, id_for, receiver_in, target_at}
+use Rattle.sbp_world.proofs.Words.World.{history_of, moments_behind, ready_logins, Run, after, beginning, MayAll, after_all, WorldState, begun, Awaits, HasRequest, IsRun, more_deliveries, InPlaceLaw, IsInPlace, IsHandling, IsManaged, ManagingLaw, IsCalm, OpenBefore, OpenBetween, BringOrbs, IsReading, OperationsLast}
 use Rattle.bus_memory.specs.declared.window.Window.TheVariants as windows
-use Rattle.bus_memory.specs.Windows.{start as start_of}
-use Rattle.bus_transactions.specs.Packets.{SerialsCount}
-use Rattle.bus_transactions.specs.Wire.{transaction}
 use Rattle.bus_transactions.proofs.Reaches.{goes_on}
-use Rattle.mgmt_agent.specs.declared.operation.Operation.{Operation}
 use Rattle.mgmt_agent.specs.declared.operation.Phase.TheVariants as phases
-use Rattle.mgmt_agent.specs.Machine.{Machine, source_in}
-use Rattle.rbc_disk.specs.Disk.{Disk}
-use Rattle.rbc_disk.specs.Runs.{Told}
-use Rattle.sbp_journal.specs.declared.event.Event.{Event}
-use Rattle.sbp_journal.specs.Run.{Moment, asked, said}
-use Rattle.sbp_journal.specs.Transactions.{Part, Sending, Transaction, asked_as, asked_by, begun_by, begun_if, between, part_of, request}
-use Rattle.sbp_journal.specs.Wire.{Terms, terms}
-use Rattle.sbp_laws.specs.Hosts.{Underway, host_at, is_management}
-use Rattle.sbp_laws.specs.Packets.{id_for, receiver_in}
-use Rattle.sbp_laws.specs.Targets.{target_at}
-use Rattle.sbp_world.specs.Histories.{history_of, moments_behind}
-use Rattle.sbp_world.specs.Making.{ready_logins}
-use Rattle.sbp_world.specs.Runs.{Run, after, beginning}
-use Rattle.sbp_world.specs.Settling.{MayAll, after_all}
-use Rattle.sbp_world.specs.Worlds.{WorldState, begun}
-use Rattle.sbp_world.specs.Agents.Management.Terms.{Awaits, HasRequest}
+use Rattle.mgmt_agent.specs.Machine.{Machine}
 use Rattle.sbp_world.proofs.Agents.Management.Holding.{Holding, past_terms}
 use Rattle.sbp_world.proofs.Agents.Management.Lines.{all_heard as all_hold, opens}
 use Rattle.sbp_world.proofs.Agents.Management.Runs.{holds_after, no_repeats, not_reset}
 use Rattle.sbp_world.proofs.Agents.Management.Still.{hist}
-use Rattle.sbp_world.specs.Hosts.Runs.{IsRun, more_deliveries}
 use Rattle.sbp_world.proofs.Hosts.Between.{of_wire_there}
 use Rattle.sbp_world.proofs.Hosts.Remaining.{remains, serials}
-use Rattle.sbp_world.specs.Lists.InPlace.{InPlaceLaw, IsInPlace}
-use Rattle.sbp_world.specs.Lists.Managing.{IsHandling, IsManaged, ManagingLaw}
-use Rattle.sbp_world.specs.Lists.Needs.{IsCalm, OpenBefore, OpenBetween}
-use Rattle.sbp_world.specs.Lists.ReadOrbs.{BringOrbs, IsReading}
-use Rattle.sbp_world.specs.Lists.Underway.{OperationsLast}
 use Rattle.sbp_world.proofs.Lists.Calm.{calm_before}
 use Rattle.sbp_world.proofs.Lists.ContentManages.{so_before}
 use Rattle.sbp_world.proofs.Lists.Heard.{awaited_to}

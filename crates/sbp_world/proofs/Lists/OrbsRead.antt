@@ -1,30 +1,16 @@
 -- The target reads the management ORB that stands in its place.
-use Rattle.std.proofs.Common.{arith, ◌≡◌, ◌∙◌, refl, sym, ap, subst, ℕ, zero, ◌+◌, ◌≤◌, List, [], ◌∷◌, ◌++◌, map, Some, append_assoc}
-use Rattle.bus_transactions.specs.Packets.{SerialsCount}
-use Rattle.mgmt_agent.specs.declared.operation.Operation.{Operation}
+use Rattle.sbp_world.proofs.Words.Std.{arith, ◌≡◌, ◌∙◌, refl, sym, ap, subst, ℕ, zero, ◌+◌, ◌≤◌, List, [], ◌∷◌, ◌++◌, map, Some, append_assoc}
+use Rattle.sbp_world.proofs.Words.Wire.{SerialsCount, Access, Moment, asked, said, terms}
+use Rattle.sbp_world.proofs.Words.Target.{Operation, Disk}
+use Rattle.sbp_world.proofs.Words.Laws.{Underway, access_at, access_in, packet_in, place_bytes, place_held}
+use Rattle.sbp_world.proofs.Words.World.{history_of, after, beginning, after_all, begun, read_access, more_deliveries, AccessOf, AreAsked, WasAsked, BringPlaces, IsReading, ReadOrbsLaw, OperationsLast}
 use Rattle.mgmt_agent.specs.declared.operation.Phase.{Phase}
 use Rattle.mgmt_agent.specs.declared.operation.Phase.TheVariants as phases
-use Rattle.rbc_disk.specs.Disk.{Disk}
-use Rattle.sbp_journal.specs.Addresses.{Access}
 use Rattle.sbp_journal.specs.declared.note.Note.TheVariants as notes
-use Rattle.sbp_journal.specs.Run.{Moment, asked, said}
-use Rattle.sbp_journal.specs.Wire.{terms}
-use Rattle.sbp_laws.specs.Hosts.{Underway}
-use Rattle.sbp_laws.specs.Packets.{access_at, access_in, packet_in}
-use Rattle.sbp_laws.specs.Served.{place_bytes, place_held}
-use Rattle.sbp_world.specs.Histories.{history_of}
-use Rattle.sbp_world.specs.Runs.{after, beginning}
-use Rattle.sbp_world.specs.Settling.{after_all}
-use Rattle.sbp_world.specs.Worlds.{begun}
-use Rattle.sbp_world.specs.Agents.AskedRuns.{read_access}
-use Rattle.sbp_world.specs.Hosts.Runs.{more_deliveries}
 use Rattle.sbp_world.proofs.Hosts.Between.{of_wire_there}
 use Rattle.sbp_world.proofs.Hosts.Remaining.{remains, serials}
 use Rattle.sbp_world.proofs.Hosts.SentMoments.{count_now, sent_there, serials_from}
-use Rattle.sbp_world.specs.Lists.Contents.{AccessOf, AreAsked, WasAsked}
-use Rattle.sbp_world.specs.Lists.PlaceReads.{BringPlaces}
-use Rattle.sbp_world.specs.Lists.ReadOrbs.{IsAnswered, IsReading, ReadOrbsLaw}
-use Rattle.sbp_world.specs.Lists.Underway.{OperationsLast}
+use Rattle.sbp_world.specs.Lists.ReadOrbs.{IsAnswered}
 use Rattle.sbp_world.proofs.Lists.ContentAsked.{contents_law}
 use Rattle.sbp_world.proofs.Lists.ContentManages.{bound}
 use Rattle.sbp_world.proofs.Lists.PlaceBrings.{place_reads_law}

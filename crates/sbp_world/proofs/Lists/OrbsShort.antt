@@ -1,21 +1,14 @@
 -- The unit or the login that the management ORB of an operation names has 16 bits.
-use Rattle.std.proofs.Common.{arith, ◌≡◌, subst, ℕ, ◌+◌, ◌%◌, ◌^◌, ◌<◌, nat_eq, Bool, true, false, cond, List, [], ◌∷◌, Some, None}
-use Rattle.sbp_base.specs.Quadlets.{quad}
-use Rattle.orb_layout.specs.declared.login.LoginResponse.{LoginResponse}
-use Rattle.sbp_journal.specs.Run.{Moment, asked, said}
-use Rattle.sbp_journal.specs.declared.event.Action.{Action}
+use Rattle.sbp_world.proofs.Words.Std.{arith, ◌≡◌, subst, ℕ, ◌+◌, ◌%◌, ◌^◌, ◌<◌, nat_eq, Bool, true, false, cond, List, [], ◌∷◌, Some, None, quad}
+use Rattle.sbp_world.proofs.Words.Wire.{Moment, asked, said, Action, Event}
+use Rattle.sbp_world.proofs.Words.Initiator.{LoginResponse}
+use Rattle.sbp_world.proofs.Words.Laws.{before_sent, Host, host_at, response_of, management_orb_of, EachMoment, event_of}
+use Rattle.sbp_world.proofs.Words.World.{AreShort, HasShortOrb, IsShortAction, IsShortEvent, AreUnderway}
 use Rattle.sbp_journal.specs.declared.event.Action.TheVariants as actions
-use Rattle.sbp_journal.specs.declared.event.Event.{Event}
 use Rattle.sbp_journal.specs.declared.event.Event.TheVariants as events
 use Rattle.sbp_journal.specs.declared.note.Note.TheVariants as notes
 use Rattle.sbp_journal.specs.declared.operation.Operation.TheVariants as operations
 use Rattle.sbp_journal.specs.declared.operation.OpWord.TheVariants as words
-use Rattle.sbp_laws.specs.CarriedBytes.{before_sent}
-use Rattle.sbp_laws.specs.Hosts.{Host, host_at, response_of}
-use Rattle.sbp_laws.specs.Served.{management_orb_of}
-use Rattle.sbp_laws.specs.Turns.{EachMoment, event_of}
-use Rattle.sbp_world.specs.Lists.Shorts.{AreShort, HasShortOrb, IsShortAction, IsShortEvent}
-use Rattle.sbp_world.specs.Lists.Underway.{AreUnderway}
 use Rattle.sbp_world.proofs.Lists.HostLogins.{GrantsAt, login_good}
 
 -- ---- the login of a host has 16 bits

@@ -1,11 +1,8 @@
 -- What is so where no initiator injected packets was so before; and a FIFO of a login is in no window, and none of a place.
-use Rattle.std.proofs.Common.{arith, ◌≡◌, refl, ℕ, ◌^◌, ◌<◌, ◌≤◌, nat_le, Bool, true, false, cond, List, ◌++◌, Some, None}
-use Rattle.std.proofs.lemmas.Bool.Decides.{nat_tests}
-use Rattle.bus_memory.specs.declared.window.Window.{Window}
-use Rattle.bus_memory.specs.Windows.{window_at, within}
-use Rattle.sbp_journal.specs.Run.{Moment}
-use Rattle.sbp_world.specs.Hosts.Statuses.Taking.{is_place_fifo}
-use Rattle.sbp_world.specs.Lists.OwnLogins.{IsLoginFifo, IsTame}
+use Rattle.sbp_world.proofs.Words.Std.{arith, ◌≡◌, refl, ℕ, ◌^◌, ◌<◌, ◌≤◌, nat_le, Bool, true, false, cond, List, ◌++◌, Some, None, nat_tests}
+use Rattle.sbp_world.proofs.Words.Wire.{Moment}
+use Rattle.sbp_world.proofs.Words.Initiator.{Window, window_at, within}
+use Rattle.sbp_world.proofs.Words.World.{is_place_fifo, IsLoginFifo, IsTame}
 use Rattle.sbp_world.proofs.Lists.Calm.{calm_before}
 
 pub tame_before : (later past : List Moment) → IsTame (later ++ past) → IsTame past

@@ -1,31 +1,17 @@
 -- As each packet is got in a run in which no initiator injected packets, or few logins were given, an answer to an agent brings of an initiator that injected none what the agent of its own place asked for, or
 -- what begins elsewhere.
+use Rattle.sbp_world.proofs.Words.Std.{◌⊎◌, ◌≡◌, ◌∙◌, refl, sym, ap, subst, ◌<◌, ℕ, suc, Bool, false, cond, List, [], ◌∷◌, ◌++◌, map, Option, Some, None}
+use Rattle.sbp_world.proofs.Words.Wire.{Moment, asked, said, Part, Sending, Transaction, between, part_of, request, response, Held, Terms, opened, terms, Event, Note}
+use Rattle.sbp_world.proofs.Words.Target.{Disk}
+use Rattle.sbp_world.proofs.Words.Laws.{Moved, moved_by, read_by, injectors, access_in, answer_in, answered_as, answered_at, answered_in, closed_by, packet_in, receiver_in, sender_in, Target, agent_at, for_agent, is_serial, over, purpose_of, target_at, EachMoment}
+use Rattle.sbp_world.proofs.Words.World.{ready_logins, WorldState, serial_of, more_deliveries, OpenListsLaw, IsTameOrFew, AllElsewhere, IsOwnOrOther, is_main_of, main_moved, main_read, IsCalm, initiator_in, AreOwnAsGot, OwnAsGot, OwnAsGotLaw}
 use Rattle.std.specs.Prelude.{◌&&◌}
-use Rattle.std.proofs.Common.{◌⊎◌, ◌≡◌, ◌∙◌, refl, sym, ap, subst, ◌<◌, ℕ, suc, Bool, false, cond, List, [], ◌∷◌, ◌++◌, map, Option, Some, None}
-use Rattle.rbc_disk.specs.Disk.{Disk}
-use Rattle.sbp_journal.specs.Run.{Moment, asked, said}
-use Rattle.sbp_journal.specs.Transactions.{Part, Sending, Transaction, between, no_packet, part_of, request, response}
-use Rattle.sbp_journal.specs.Wire.{Held, Terms, opened, terms}
-use Rattle.sbp_journal.specs.declared.event.Event.{Event}
+use Rattle.sbp_journal.specs.Transactions.{no_packet}
 use Rattle.sbp_journal.specs.declared.event.Event.TheVariants as events
-use Rattle.sbp_journal.specs.declared.note.Note.{Note}
 use Rattle.sbp_journal.specs.declared.note.Note.TheVariants as notes
-use Rattle.sbp_laws.specs.CarriedBytes.{Moved, bytes_in, moved_by, read_by}
-use Rattle.sbp_laws.specs.Lawful.{injectors}
-use Rattle.sbp_laws.specs.Packets.{access_in, answer_in, answered_as, answered_at, answered_in, closed_by, packet_in, receiver_in, sender_in}
-use Rattle.sbp_laws.specs.Targets.{Target, agent_at, for_agent, is_serial, over, purpose_of, target_at}
-use Rattle.sbp_laws.specs.Turns.{EachMoment}
-use Rattle.sbp_world.specs.Making.{ready_logins}
-use Rattle.sbp_world.specs.Worlds.{WorldState}
-use Rattle.sbp_world.specs.Agents.AskedRuns.{serial_of}
+use Rattle.sbp_laws.specs.CarriedBytes.{bytes_in}
 use Rattle.sbp_world.proofs.Agents.Management.Holding.{Holding}
 use Rattle.sbp_world.proofs.Agents.Management.Still.{hist}
-use Rattle.sbp_world.specs.Hosts.Runs.{more_deliveries}
-use Rattle.sbp_world.specs.Lists.Closes.{OpenListsLaw}
-use Rattle.sbp_world.specs.Lists.FewLogins.{IsTameOrFew}
-use Rattle.sbp_world.specs.Lists.FedRuns.{AllElsewhere, IsOwnOrOther, is_main_of, main_moved, main_read}
-use Rattle.sbp_world.specs.Lists.Needs.{IsCalm, initiator_in}
-use Rattle.sbp_world.specs.Lists.OwnGots.{AreOwnAsGot, OwnAsGot, OwnAsGotLaw}
 use Rattle.sbp_world.proofs.Lists.Calm.{calm_before}
 use Rattle.sbp_world.proofs.Lists.Courses.{EveryPlace, Keeps, at_between, at_lines, more_than_one}
 use Rattle.sbp_world.proofs.Lists.FedGots.{are_own_gots}

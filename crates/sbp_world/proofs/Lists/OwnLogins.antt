@@ -1,50 +1,20 @@
 -- In every run where no initiator injected packets each login of the target has a FIFO of a login.
-use Rattle.std.proofs.Common.{arith, ◌≡◌, ◌∙◌, refl, sym, ap, subst, ℕ, zero, suc, ◌+◌, ◌-◌, ◌^◌, ◌<◌, ◌≤◌, Bool, true, false, List, [], ◌++◌, length, replicate, Option, Some, None}
-use Rattle.async_packet.specs.Labels.{LabelParts}
-use Rattle.async_packet.specs.Packet.{Packet}
-use Rattle.sbp_world.specs.Agents.Holders.{AreHeldAt}
+use Rattle.sbp_world.proofs.Words.Std.{arith, ◌≡◌, ◌∙◌, refl, sym, ap, subst, ℕ, zero, suc, ◌+◌, ◌-◌, ◌^◌, ◌<◌, ◌≤◌, Bool, true, false, List, [], ◌++◌, length, replicate, Option, Some, None}
+use Rattle.sbp_world.proofs.Words.Wire.{LabelParts, Packet, SerialsCount, judging_step, of_response, Sent, found_sent, empty_outbox, Moment, terms}
+use Rattle.sbp_world.proofs.Words.Target.{Table, Operation, source_in, Disk, NodeState, scene, answer_in, received, whole}
+use Rattle.sbp_world.proofs.Words.Initiator.{management_orb, Answer}
+use Rattle.sbp_world.proofs.Words.Laws.{id_for, Decided, bytes_in, decided_by, decided_in, first_table, logins_from, EachMoment}
+use Rattle.sbp_world.proofs.Words.World.{AreHeldAt, NoneInjected, more_deliveries, moments_behind, new_world, ready_logins, Run, after, beginning, after_all, Scene, WorldState, begun, AreAsked, IsCalm, AreOwn, GoodIn, IsGoodOrb, IsTame, BasedAt, BringPlaces, AreShort}
 use Rattle.sbp_world.proofs.Agents.Holders.{holders_between_law, holders_law}
 use Rattle.sbp_world.proofs.Agents.Management.Begins.{first_holds}
 use Rattle.sbp_world.proofs.Agents.Management.Holding.{Holding}
 use Rattle.sbp_world.proofs.Agents.Management.Still.{hist}
-use Rattle.bus_transactions.specs.Packets.{SerialsCount}
-use Rattle.sbp_world.specs.Hosts.Carrying.{NoneInjected}
-use Rattle.sbp_world.specs.Hosts.Runs.{more_deliveries}
 use Rattle.sbp_world.proofs.Hosts.Between.{of_wire_there}
 use Rattle.sbp_world.proofs.Hosts.Remaining.{serials}
 use Rattle.sbp_world.proofs.Hosts.Runs.{count_after, count_between}
-use Rattle.label_table.specs.Layer.{judging_step, of_response}
-use Rattle.login_table.specs.Table.{Table}
-use Rattle.mgmt_agent.specs.declared.operation.Operation.{Operation}
 use Rattle.mgmt_agent.specs.declared.operation.Phase.{Phase}
 use Rattle.mgmt_agent.specs.declared.operation.Phase.TheVariants as phases
-use Rattle.mgmt_agent.specs.Machine.{source_in}
-use Rattle.orb_layout.specs.ManagementOrbs.{management_orb}
-use Rattle.orb_layout.specs.Replies.{Answer}
-use Rattle.packet_store.specs.declared.sent.Sent.{Sent}
-use Rattle.packet_store.specs.Kept.{found_sent}
-use Rattle.rbc_disk.specs.Disk.{Disk}
-use Rattle.sbp_journal.specs.Outgoings.{empty_outbox}
-use Rattle.sbp_journal.specs.Run.{Moment}
-use Rattle.sbp_journal.specs.Wire.{terms}
-use Rattle.sbp_laws.specs.Packets.{id_for}
-use Rattle.sbp_laws.specs.Targets.{Decided, bytes_in, decided_by, decided_in, first_table, logins_from}
-use Rattle.sbp_laws.specs.Turns.{EachMoment}
 use Rattle.sbp_target.specs.declared.purpose.Purpose.TheVariants as purposes
-use Rattle.sbp_target.specs.Nodes.{NodeState, scene}
-use Rattle.sbp_target.specs.Receiving.{answer_in, received}
-use Rattle.sbp_target.specs.Replies.{whole}
-use Rattle.sbp_world.specs.Histories.{moments_behind}
-use Rattle.sbp_world.specs.Making.{new_world, ready_logins}
-use Rattle.sbp_world.specs.Runs.{Run, after, beginning}
-use Rattle.sbp_world.specs.Settling.{after_all}
-use Rattle.sbp_world.specs.Worlds.{Scene, WorldState, begun}
-use Rattle.sbp_world.specs.Lists.Contents.{AreAsked}
-use Rattle.sbp_world.specs.Lists.Needs.{IsCalm}
-use Rattle.sbp_world.specs.Lists.OwnLogins.{AreOwn, GoodIn, IsGoodOrb, IsTame}
-use Rattle.sbp_world.specs.Lists.Placings.{BasedAt}
-use Rattle.sbp_world.specs.Lists.PlaceReads.{BringPlaces}
-use Rattle.sbp_world.specs.Lists.Shorts.{AreShort}
 use Rattle.sbp_world.proofs.Lists.ContentAsked.{contents_law}
 use Rattle.sbp_world.proofs.Lists.Courses.{EveryPlace, Goes, Keeps, at_between, at_lines}
 use Rattle.sbp_world.proofs.Lists.Judging.{goes_next, grown}

@@ -1,30 +1,12 @@
 -- Each live login of an initiator that injected no packets has the FIFO of a login, at each place of every run: where no initiator injected packets, or few logins were
 -- given, and by what is known of the logins that were done.
-use Rattle.std.proofs.Common.{arith, ◌≡◌, ◌∙◌, sym, ap, ◌<◌, ◌≤◌, ◌+◌, ℕ, suc, true, List, [], length, Some}
-use Rattle.login_table.specs.Table.{is_live}
-use Rattle.login_table.specs.declared.login.Login.{Login}
-use Rattle.rbc_disk.specs.Disk.{Disk}
-use Rattle.sbp_bus.specs.declared.places.Holder.{Holder}
-use Rattle.sbp_bus.specs.Places.{or_nobody}
-use Rattle.sbp_journal.specs.Run.{Moment}
-use Rattle.sbp_journal.specs.Wire.{terms}
-use Rattle.sbp_laws.specs.Packets.{id_for}
-use Rattle.sbp_laws.specs.Turns.{EachMoment}
-use Rattle.sbp_target.specs.Nodes.{login_at}
-use Rattle.sbp_world.specs.Histories.{history_of, moments_behind}
-use Rattle.sbp_world.specs.Making.{new_world, ready_logins}
-use Rattle.sbp_world.specs.Runs.{Run, after, beginning}
-use Rattle.sbp_world.specs.Settling.{after_all}
-use Rattle.sbp_world.specs.Worlds.{WorldState, begun}
-use Rattle.sbp_world.specs.Agents.Holders.{AreHeldAt}
-use Rattle.sbp_world.specs.Hosts.Runs.{more_deliveries}
+use Rattle.sbp_world.proofs.Words.Std.{arith, ◌≡◌, ◌∙◌, sym, ap, ◌<◌, ◌≤◌, ◌+◌, ℕ, suc, true, List, [], length, Some}
+use Rattle.sbp_world.proofs.Words.Wire.{Holder, or_nobody, Moment, terms}
+use Rattle.sbp_world.proofs.Words.Target.{is_live, Login, Disk, login_at}
+use Rattle.sbp_world.proofs.Words.Laws.{id_for, EachMoment}
+use Rattle.sbp_world.proofs.Words.World.{history_of, moments_behind, new_world, ready_logins, Run, after, beginning, after_all, WorldState, begun, AreHeldAt, more_deliveries, IsTameOf, AreOwn, AreOwnOf, IsLoginFifo, IsTame, OwnedAt, BasedAt, AreShort}
 use Rattle.sbp_world.proofs.Agents.Holders.{holders_between_law, holders_law}
 use Rattle.sbp_world.proofs.Agents.Management.Begins.{first_holds}
-use Rattle.sbp_world.specs.Lists.FewLogins.{IsTameOf}
-use Rattle.sbp_world.specs.Lists.OwnLogins.{AreOwn, AreOwnOf, IsLoginFifo, IsTame}
-use Rattle.sbp_world.specs.Lists.Owners.{OwnedAt}
-use Rattle.sbp_world.specs.Lists.Placings.{BasedAt}
-use Rattle.sbp_world.specs.Lists.Shorts.{AreShort}
 use Rattle.sbp_world.proofs.Lists.Beside.{AreDone, all_done, own_done}
 use Rattle.sbp_world.proofs.Lists.Courses.{EveryPlace, Keeps, at_between, at_lines, more_than_one}
 use Rattle.sbp_world.proofs.Lists.IdsReturns.{own_fifos_everywhere}

@@ -1,48 +1,20 @@
 -- An operation of the target of an initiator that injected no packets keeps a good management ORB: it read the one in a place of the initiator, which stood there
 -- before the read was sent.
-use Rattle.std.proofs.Common.{arith, ◌≡◌, ◌∙◌, refl, sym, ap, subst, ℕ, suc, ◌+◌, ◌^◌, ◌<◌, ◌≤◌, nat_le, Bool, true, false, List, [], ◌∷◌, ◌++◌, length, Option, Some, None, append_assoc}
-use Rattle.std.proofs.lemmas.Bool.Decides.{nat_tests}
-use Rattle.async_packet.specs.Labels.{LabelParts}
-use Rattle.async_packet.specs.Packet.{Packet}
+use Rattle.sbp_world.proofs.Words.Std.{arith, ◌≡◌, ◌∙◌, refl, sym, ap, subst, ℕ, suc, ◌+◌, ◌^◌, ◌<◌, ◌≤◌, nat_le, Bool, true, false, List, [], ◌∷◌, ◌++◌, length, Option, Some, None, append_assoc, nat_tests}
+use Rattle.sbp_world.proofs.Words.Wire.{LabelParts, Packet, SerialsCount, judging_step, of_response, Sent, found_sent, Access, empty_outbox, Moment, asked, said, terms}
+use Rattle.sbp_world.proofs.Words.Target.{Operation, Disk, Told, NodeState, scene, answer_in, received, whole}
+use Rattle.sbp_world.proofs.Words.Initiator.{start_of, ManagementOrb, management_orb, Payload}
+use Rattle.sbp_world.proofs.Words.Laws.{id_for, place_bytes, place_held, target_at, EachMoment}
+use Rattle.sbp_world.proofs.Words.World.{NoneInjected, Scene, WorldState, read_access, AreAsked, WasAsked, IsCalm, GoodIn, IsGoodOrb, BringPlaces, AreShort}
 use Rattle.bus_memory.specs.declared.window.Window.TheVariants as windows
-use Rattle.bus_memory.specs.Windows.{start as start_of}
-use Rattle.bus_transactions.specs.Packets.{SerialsCount}
-use Rattle.sbp_world.specs.Hosts.Carrying.{NoneInjected}
 use Rattle.sbp_world.proofs.Hosts.Remaining.{remains, serials_behind}
 use Rattle.sbp_world.proofs.Hosts.SentMoments.{count_now, serials_from}
-use Rattle.label_table.specs.Layer.{judging_step, of_response}
-use Rattle.mgmt_agent.specs.declared.operation.Operation.{Operation}
 use Rattle.mgmt_agent.specs.declared.operation.Phase.TheVariants as phases
 use Rattle.mgmt_agent.specs.Machine.{Machine}
-use Rattle.orb_layout.specs.declared.management.ManagementOrb.{ManagementOrb}
-use Rattle.orb_layout.specs.ManagementOrbs.{management_orb}
-use Rattle.orb_layout.specs.Replies.{Payload}
-use Rattle.packet_store.specs.declared.sent.Sent.{Sent}
-use Rattle.packet_store.specs.Kept.{found_sent}
-use Rattle.rbc_disk.specs.Disk.{Disk}
-use Rattle.rbc_disk.specs.Runs.{Told}
-use Rattle.sbp_journal.specs.Addresses.{Access}
 use Rattle.sbp_journal.specs.declared.note.Note.TheVariants as notes
-use Rattle.sbp_journal.specs.Outgoings.{empty_outbox}
-use Rattle.sbp_journal.specs.Run.{Moment, asked, said}
-use Rattle.sbp_journal.specs.Wire.{terms}
-use Rattle.sbp_laws.specs.Packets.{id_for}
-use Rattle.sbp_laws.specs.Served.{place_bytes, place_held}
-use Rattle.sbp_laws.specs.Targets.{target_at}
-use Rattle.sbp_laws.specs.Turns.{EachMoment}
 use Rattle.sbp_target.specs.declared.purpose.Purpose.TheVariants as purposes
-use Rattle.sbp_target.specs.Nodes.{NodeState, scene}
-use Rattle.sbp_target.specs.Receiving.{answer_in, received}
-use Rattle.sbp_target.specs.Replies.{whole}
-use Rattle.sbp_world.specs.Worlds.{Scene, WorldState}
-use Rattle.sbp_world.specs.Agents.AskedRuns.{read_access}
 use Rattle.sbp_world.proofs.Agents.Management.Holding.{Holding}
 use Rattle.sbp_world.proofs.Agents.Management.Still.{hist}
-use Rattle.sbp_world.specs.Lists.Contents.{AreAsked, WasAsked}
-use Rattle.sbp_world.specs.Lists.Needs.{IsCalm}
-use Rattle.sbp_world.specs.Lists.OwnLogins.{GoodIn, IsGoodOrb}
-use Rattle.sbp_world.specs.Lists.PlaceReads.{BringPlaces}
-use Rattle.sbp_world.specs.Lists.Shorts.{AreShort}
 use Rattle.sbp_world.proofs.Lists.ContentManages.{bound, so_before}
 use Rattle.sbp_world.proofs.Lists.Courses.{Goes}
 use Rattle.sbp_world.proofs.Lists.Judging.{Grown, goes_next, grown}

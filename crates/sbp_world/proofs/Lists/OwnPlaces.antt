@@ -1,23 +1,14 @@
 -- Each management ORB that stands in a place of an initiator names a FIFO of the initiator's, and where it asks for a login, that of a login.
-use Rattle.std.proofs.Common.{arith, ◌≡◌, ◌∙◌, refl, sym, ap, subst, ℕ, suc, ◌+◌, ◌*◌, ◌%◌, ◌^◌, ◌<◌, ◌≤◌, ◌==◌, ◌&&◌, Bool, true, false, cond, List, [], ◌∷◌, Option, Some, None}
-use Rattle.std.proofs.lemmas.Bool.Decides.{nat_tests}
+use Rattle.sbp_world.proofs.Words.Std.{arith, ◌≡◌, ◌∙◌, refl, sym, ap, subst, ℕ, suc, ◌+◌, ◌*◌, ◌%◌, ◌^◌, ◌<◌, ◌≤◌, ◌==◌, ◌&&◌, Bool, true, false, cond, List, [], ◌∷◌, Option, Some, None, nat_tests}
+use Rattle.sbp_world.proofs.Words.Wire.{Moment, asked, said, Action, Event, Operation}
+use Rattle.sbp_world.proofs.Words.Target.{function_of}
+use Rattle.sbp_world.proofs.Words.Initiator.{ManagementOrb, management_bytes, management_orb}
+use Rattle.sbp_world.proofs.Words.Laws.{Host, host_at, operation_of, is_own, management_orb_of, place_held, place_written, EachMoment, event_of}
+use Rattle.sbp_world.proofs.Words.World.{manages, IsAside, IsGoodOrb, IsItsFifo, IsLoginFifo, in_front, of_login, of_place, of_response, AreShort, IsShortAction}
 use Rattle.mgmt_agent.specs.declared.function.Function.TheVariants as functions
-use Rattle.mgmt_agent.specs.Statuses.{function_of}
-use Rattle.orb_layout.specs.declared.management.ManagementOrb.{ManagementOrb}
-use Rattle.orb_layout.specs.ManagementOrbs.{management_bytes, management_orb}
-use Rattle.sbp_world.specs.Pointers.Moments.{manages}
-use Rattle.sbp_journal.specs.Run.{Moment, asked, said}
-use Rattle.sbp_journal.specs.declared.event.Action.{Action}
 use Rattle.sbp_journal.specs.declared.event.Action.TheVariants as actions
-use Rattle.sbp_journal.specs.declared.event.Event.{Event}
 use Rattle.sbp_journal.specs.declared.event.Event.TheVariants as events
 use Rattle.sbp_journal.specs.declared.note.Note.TheVariants as notes
-use Rattle.sbp_journal.specs.declared.operation.Operation.{Operation}
-use Rattle.sbp_laws.specs.Hosts.{Host, host_at, operation_of}
-use Rattle.sbp_laws.specs.Served.{is_own, management_orb_of, place_held, place_written}
-use Rattle.sbp_laws.specs.Turns.{EachMoment, event_of}
-use Rattle.sbp_world.specs.Lists.OwnLogins.{IsAside, IsGoodOrb, IsItsFifo, IsLoginFifo, in_front, of_login, of_place, of_response}
-use Rattle.sbp_world.specs.Lists.Shorts.{AreShort, IsShortAction}
 use Rattle.sbp_world.proofs.Lists.OrbsShort.{event_short, login_small, orb_short}
 use Rattle.sbp_world.proofs.Lists.OwnCounts.{FewAt}
 use Rattle.sbp_world.proofs.Common.{untrue}

@@ -1,37 +1,18 @@
 -- What a reply to the request of the management's operation leaves of the FIFO that it keeps: it is the initiator's, where the ORB that a reply brings names such a FIFO.
-use Rattle.std.proofs.Common.{◌≡◌, ◌∙◌, refl, sym, ap, subst, ℕ, ◌*◌, ◌+◌, ◌^◌, ◌==◌, Bool, true, false, cond, List, length, Option, Some, None, Result, Ok, Err}
-use Rattle.async_packet.specs.Labels.{LabelParts}
-use Rattle.async_packet.specs.Packet.{Packet}
-use Rattle.label_table.specs.Layer.{Finding, judging_step, of_response}
-use Rattle.login_table.specs.Table.{Table}
-use Rattle.mgmt_agent.specs.declared.decision.ManagerStep.{ManagerStep}
+use Rattle.sbp_world.proofs.Words.Std.{◌≡◌, ◌∙◌, refl, sym, ap, subst, ℕ, ◌*◌, ◌+◌, ◌^◌, ◌==◌, Bool, true, false, cond, List, length, Option, Some, None, Result, Ok, Err, quad}
+use Rattle.sbp_world.proofs.Words.Wire.{LabelParts, Packet, Finding, judging_step, of_response, empty_outbox}
+use Rattle.sbp_world.proofs.Words.Target.{Table, ManagerStep, Operation, Status, decide, reads_eui, beside, cut_response, decide_step, decided_as, eui_step, high_eui_at, high_got, in_phase, low_got, orb_got, reply_in, reply_to, respond_step, response_written, status_step, status_written, Disk, Told, Purpose, NodeState, scene, answer_in, received, whole}
+use Rattle.sbp_world.proofs.Words.Initiator.{Nothing, FailCause, ManagementOrb, management_orb, Answer, Payload, payload_of, write_failure}
+use Rattle.sbp_world.proofs.Words.World.{CallsKeep, Office, GoodIn, IsGoodOrb}
 use Rattle.mgmt_agent.specs.declared.decision.Outcome.{Outcome}
-use Rattle.mgmt_agent.specs.declared.operation.Operation.{Operation}
 use Rattle.mgmt_agent.specs.declared.operation.Phase.{Phase}
 use Rattle.mgmt_agent.specs.declared.operation.Phase.TheVariants as phases
-use Rattle.mgmt_agent.specs.declared.status.Status.{Status}
-use Rattle.mgmt_agent.specs.Decisions.{decide, reads_eui}
-use Rattle.mgmt_agent.specs.Machine.{Machine, beside, cut_response, decide_step, decided_as, eui_step, high_eui_at, high_got, in_phase, low_got, orb_got, reply_in, reply_step, reply_to, respond_step, response_written, status_step, status_written}
-use Rattle.orb_layout.specs.declared.ask.Ask.TheVariants.{Nothing}
-use Rattle.orb_layout.specs.declared.ask.FailCause.{FailCause}
-use Rattle.orb_layout.specs.declared.management.ManagementOrb.{ManagementOrb}
-use Rattle.orb_layout.specs.ManagementOrbs.{management_orb}
-use Rattle.orb_layout.specs.Replies.{Answer, Payload, payload_of, write_failure}
-use Rattle.rbc_disk.specs.Disk.{Disk}
-use Rattle.rbc_disk.specs.Runs.{Told}
-use Rattle.sbp_base.specs.Quadlets.{quad}
-use Rattle.sbp_journal.specs.Outgoings.{empty_outbox}
-use Rattle.sbp_target.specs.declared.purpose.Purpose.{Purpose}
+use Rattle.mgmt_agent.specs.Machine.{Machine, reply_step}
 use Rattle.sbp_target.specs.declared.purpose.Purpose.TheVariants as purposes
-use Rattle.sbp_target.specs.Nodes.{NodeState, scene}
-use Rattle.sbp_target.specs.Receiving.{answer_in, received}
-use Rattle.sbp_target.specs.Replies.{whole}
 use Rattle.sbp_target.proofs.Histories.Calling.{Good}
-use Rattle.sbp_world.specs.Agents.Management.Calls.{CallsKeep, delivered}
-use Rattle.sbp_world.specs.Agents.Management.Offices.{Office}
+use Rattle.sbp_world.specs.Agents.Management.Calls.{delivered}
 use Rattle.sbp_world.proofs.Sessions.Decisions.{none_goes}
 use Rattle.sbp_world.proofs.Sessions.Writing.{behind}
-use Rattle.sbp_world.specs.Lists.OwnLogins.{GoodIn, IsGoodOrb}
 use Rattle.sbp_world.proofs.Lists.OpenedReplied.{pays_as as payload_is}
 
 module _ (answer : Answer) (own : Operation) (good : GoodIn own.phase) (brings : own.phase ≡ phases.Orb → (bytes : List ℕ) → answer ≡ Payload bytes → IsGoodOrb (management_orb bytes)) where

@@ -1,17 +1,10 @@
 -- By every history, where answers to agents are their own as they are got and agents waited for them, what was got is of an agent's main transaction or begins elsewhere.
-use Rattle.std.proofs.Common.{inl, inr, ◌≡◌, ◌∙◌, refl, sym, ap, subst, ◌<◌, ℕ, Bool, true, false, cond, List, [], ◌∷◌, ◌++◌, Option, Some, None}
-use Rattle.rbc_disk.specs.Disk.{Disk}
-use Rattle.sbp_journal.specs.Run.{Moment, asked, said}
-use Rattle.sbp_journal.specs.Wire.{Terms, terms}
-use Rattle.sbp_journal.specs.declared.note.Note.{Note}
+use Rattle.sbp_world.proofs.Words.Std.{inl, inr, ◌≡◌, ◌∙◌, refl, sym, ap, subst, ◌<◌, ℕ, Bool, true, false, cond, List, [], ◌∷◌, ◌++◌, Option, Some, None}
+use Rattle.sbp_world.proofs.Words.Wire.{Moment, asked, said, Terms, terms, Note}
+use Rattle.sbp_world.proofs.Words.Target.{Disk}
+use Rattle.sbp_world.proofs.Words.Laws.{Moved, moved_by, payload_at, read_by, access_at, answered_at, receiver_in, Purpose, Target, for_agent, for_manager, for_nobody, is_serial, over, purpose_of, target_at, EachMoment}
+use Rattle.sbp_world.proofs.Words.World.{AllElsewhere, AreOwnOrOthers, IsOwnOrOther, is_main_of, main_moved, AreOwnAsGot, OwnAsGot, AllAwaited, AllElsewhereBut, AreAwaited, IsAwaited, IsElsewhereBut, OwnSinceLaw, by_purpose}
 use Rattle.sbp_journal.specs.declared.note.Note.TheVariants as notes
-use Rattle.sbp_laws.specs.CarriedBytes.{Moved, moved_by, payload_at, read_by}
-use Rattle.sbp_laws.specs.Packets.{access_at, answered_at, receiver_in}
-use Rattle.sbp_laws.specs.Targets.{Purpose, Target, for_agent, for_manager, for_nobody, is_serial, over, purpose_of, target_at}
-use Rattle.sbp_laws.specs.Turns.{EachMoment}
-use Rattle.sbp_world.specs.Lists.FedRuns.{AllElsewhere, AreOwnOrOthers, IsOwnOrOther, is_main_of, main_moved}
-use Rattle.sbp_world.specs.Lists.OwnGots.{AreOwnAsGot, OwnAsGot}
-use Rattle.sbp_world.specs.Lists.OwnSince.{AllAwaited, AllElsewhereBut, AreAwaited, IsAwaited, IsElsewhereBut, OwnSinceLaw, by_purpose}
 
 module _ (wild : ℕ → Bool) (start : List Disk) (i place slot : ℕ) (calm : wild i ≡ false) (small : place < 8) where
   module _ (past : List Moment) (serial : ℕ) (own : AreOwnAsGot wild start past serial) (a : IsAwaited start past i place) where

@@ -1,20 +1,12 @@
 -- Each login of the target has a FIFO of a login, behind each decision on an ORB that asks for a login with such a FIFO.
-use Rattle.std.proofs.Common.{◌≡◌, inl, inr, ◌⊎◌, refl, sym, subst, ℕ, ◌==◌, not, Bool, true, false, cond, List, map, Option, Some, None, Result, Ok, Err}
-use Rattle.std.specs.Prelude.{slice_index_or, slice_set}
-use Rattle.std.proofs.Math.ListN.{get_or-map}
-use Rattle.login_table.specs.declared.login.Login.{Login}
-use Rattle.login_table.specs.declared.login.LoginRefusal.{LoginRefusal}
-use Rattle.login_table.specs.declared.login.LoginRefusal.TheVariants.{OtherNode}
-use Rattle.login_table.specs.Requests.{LoginRequest}
-use Rattle.login_table.specs.Table.{Table, back_at, back_step, back_to, enter_at, enter_step, held, is_barred, is_last, leave_at, leave_step, left_for, one_less, place_at, revived, ticked, without}
+use Rattle.sbp_world.proofs.Words.Std.{◌≡◌, inl, inr, ◌⊎◌, refl, sym, subst, ℕ, ◌==◌, not, Bool, true, false, cond, List, map, Option, Some, None, Result, Ok, Err, slice_index_or, slice_set, get_or-map}
+use Rattle.sbp_world.proofs.Words.Target.{Login, LoginRefusal, OtherNode, LoginRequest, Table, back_at, back_step, back_to, enter_at, enter_step, held, is_last, leave_at, leave_step, left_for, one_less, place_at, revived, without, Function, asked_by, decide, decide_function, decide_login, key_at, lacks_key, unit_exists, with_status, function_of}
+use Rattle.sbp_world.proofs.Words.Initiator.{ManagementOrb}
+use Rattle.sbp_world.proofs.Words.World.{IsLoginFifo}
+use Rattle.login_table.specs.Table.{is_barred, ticked}
 use Rattle.mgmt_agent.specs.declared.decision.Outcome.{Outcome}
-use Rattle.mgmt_agent.specs.declared.function.Function.{Function}
 use Rattle.mgmt_agent.specs.declared.function.Function.TheVariants as functions
 use Rattle.mgmt_agent.specs.declared.status.Status.TheVariants as statuses
-use Rattle.mgmt_agent.specs.Decisions.{asked_by, decide, decide_function, decide_login, key_at, lacks_key, unit_exists, with_status}
-use Rattle.mgmt_agent.specs.Statuses.{function_of}
-use Rattle.orb_layout.specs.declared.management.ManagementOrb.{ManagementOrb}
-use Rattle.sbp_world.specs.Lists.OwnLogins.{IsLoginFifo}
 use Rattle.sbp_world.proofs.Lists.Kept.{set_either}
 
 abbrev pub IfOwn : Option Login → Type 0

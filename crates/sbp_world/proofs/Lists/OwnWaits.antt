@@ -1,25 +1,12 @@
 -- As each packet is got in a run in which no initiator injected packets, or few logins were given, the agents wait for page tables and data of an initiator that injected none for the ORB at the head of its own list alone.
-use Rattle.std.proofs.Common.{◌≡◌, ◌∙◌, sym, ap, subst, ◌<◌, ℕ, List, [], ◌∷◌, ◌++◌, map, Option, Some}
-use Rattle.rbc_disk.specs.Disk.{Disk}
-use Rattle.sbp_journal.specs.Run.{Moment, asked, said}
-use Rattle.sbp_journal.specs.Transactions.{Sending}
-use Rattle.sbp_journal.specs.Wire.{terms}
-use Rattle.sbp_journal.specs.declared.event.Event.{Event}
-use Rattle.sbp_journal.specs.declared.note.Note.{Note}
+use Rattle.sbp_world.proofs.Words.Std.{◌≡◌, ◌∙◌, sym, ap, subst, ◌<◌, ℕ, List, [], ◌∷◌, ◌++◌, map, Option, Some}
+use Rattle.sbp_world.proofs.Words.Wire.{Moment, asked, said, Sending, terms, Event, Note}
+use Rattle.sbp_world.proofs.Words.Target.{Disk}
+use Rattle.sbp_world.proofs.Words.Laws.{access_in, packet_in, receiver_in, Target, agent_at, target_at, EachMoment}
+use Rattle.sbp_world.proofs.Words.World.{ready_logins, WorldState, serial_of, more_deliveries, OpenListsLaw, IsTameOrFew, IsCalm, initiator_in, AreReadsOwn, ReadsAsGot, ReadsAsGotLaw, ReadsItsOwn}
 use Rattle.sbp_journal.specs.declared.note.Note.TheVariants as notes
-use Rattle.sbp_laws.specs.Packets.{access_in, packet_in, receiver_in}
-use Rattle.sbp_laws.specs.Targets.{Target, agent_at, target_at}
-use Rattle.sbp_laws.specs.Turns.{EachMoment}
-use Rattle.sbp_world.specs.Making.{ready_logins}
-use Rattle.sbp_world.specs.Worlds.{WorldState}
-use Rattle.sbp_world.specs.Agents.AskedRuns.{serial_of}
 use Rattle.sbp_world.proofs.Agents.Management.Holding.{Holding}
 use Rattle.sbp_world.proofs.Agents.Management.Still.{hist}
-use Rattle.sbp_world.specs.Hosts.Runs.{more_deliveries}
-use Rattle.sbp_world.specs.Lists.Closes.{OpenListsLaw}
-use Rattle.sbp_world.specs.Lists.FewLogins.{IsTameOrFew}
-use Rattle.sbp_world.specs.Lists.Needs.{IsCalm, initiator_in}
-use Rattle.sbp_world.specs.Lists.OwnWaits.{AreReadsOwn, ReadsAsGot, ReadsAsGotLaw, ReadsItsOwn}
 use Rattle.sbp_world.proofs.Lists.Calm.{asked_calm}
 use Rattle.sbp_world.proofs.Lists.Courses.{EveryPlace, Keeps, at_between, at_lines, more_than_one}
 use Rattle.sbp_world.proofs.Lists.FedOwners.{are_own_reads}

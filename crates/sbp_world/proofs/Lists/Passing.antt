@@ -1,22 +1,10 @@
 -- What the pass over the runs keeps of a history, and how an agent goes along a list: how often its ORBs ran, where what this stands on holds.
+use Rattle.sbp_world.proofs.Words.Wire.{check_of, Moment, said, Cmd, Append, Ended, Ran}
+use Rattle.sbp_world.proofs.Words.Target.{Outcome, Machine, Along, Progress}
+use Rattle.sbp_world.proofs.Words.Initiator.{StatusKind}
+use Rattle.sbp_world.proofs.Words.Laws.{MayEndWith, command_at, linked, slot_at, IsNextEnd, ends, ran_status, runs, status_of, EachMoment}
+use Rattle.sbp_world.proofs.Words.World.{WasHad, orbs_by, IsAppend, IsNextRun, UnrunLaw}
 use Rattle.std.specs.Prelude.{◌≡◌, ℕ, Bool, true, false, List, Option, Some, None}
-use Rattle.orb_layout.specs.declared.status.StatusKind.{StatusKind}
-use Rattle.rbc_disk.specs.declared.command.Outcome.{Outcome}
-use Rattle.command_agent.specs.Machine.{Machine}
-use Rattle.agent_laws.specs.Along.Along.{Along, Progress}
-use Rattle.sbp_bus.specs.Words.{check_of}
-use Rattle.sbp_journal.specs.Run.{Moment, said}
-use Rattle.sbp_journal.specs.declared.event.Cmd.{Cmd}
-use Rattle.sbp_journal.specs.declared.note.Note.TheVariants.{Append, Ended, Ran}
-use Rattle.sbp_laws.specs.ExecutionLaw.{MayEndWith}
-use Rattle.sbp_laws.specs.Lists.{command_at, linked, slot_at}
-use Rattle.sbp_laws.specs.OrderLaw.{IsNextEnd}
-use Rattle.sbp_laws.specs.Terms.{ends, ran_status, runs, status_of}
-use Rattle.sbp_laws.specs.Turns.{EachMoment}
-use Rattle.sbp_world.specs.Lists.CutLists.{WasHad}
-use Rattle.sbp_world.specs.Lists.Lists.{orbs_by}
-use Rattle.sbp_world.specs.Lists.Orders.{IsAppend}
-use Rattle.sbp_world.specs.Lists.Running.{IsNextRun, UnrunLaw}
 
 -- ---- the agents
 -- the runs of an ORB by the history, and the status with which it ran, where its command ran so, or did not

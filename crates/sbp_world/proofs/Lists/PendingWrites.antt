@@ -1,22 +1,10 @@
 -- The requests to write that initiators sent and that are in flight: how many there are, as packets are sent, delivered and lost.
-use Rattle.std.proofs.Common.{arith, ◌≡◌, ◌∙◌, refl, ap, ℕ, ◌+◌, ◌-◌, ◌≤◌, ◌==◌, ◌&&◌, ◌||◌, not, nat_eq, nat_lt, Bool, true, false, cond, List, [], ◌∷◌, ◌++◌, Option, Some, None}
-use Rattle.std.specs.List.{filter}
-use Rattle.async_packet.specs.Labels.{LabelParts}
-use Rattle.packet_store.specs.declared.sent.Kept.{Kept}
-use Rattle.packet_store.specs.declared.sent.Sent.{Sent}
+use Rattle.sbp_world.proofs.Words.Std.{arith, ◌≡◌, ◌∙◌, refl, ap, ℕ, ◌+◌, ◌-◌, ◌≤◌, ◌==◌, ◌&&◌, ◌||◌, not, nat_eq, nat_lt, Bool, true, false, cond, List, [], ◌∷◌, ◌++◌, Option, Some, None, filter}
+use Rattle.sbp_world.proofs.Words.Wire.{LabelParts, Kept, Sent, found, is_flying, with_delivered, without, Stored, by_bus_rule, deliver_step, newest, stays, with_sent, node_of, Outgoing, OutboxState}
+use Rattle.sbp_world.proofs.Words.Laws.{access_in_bytes}
+use Rattle.sbp_world.proofs.Words.World.{marked, handed_out, asked, posted, sent, sent_all, sent_to, told_all, WorldState}
 use Rattle.packet_store.specs.declared.transaction.Transaction.{Transaction}
-use Rattle.packet_store.specs.Kept.{found, is_flying, with_delivered, without}
-use Rattle.packet_store.specs.Stored.{Stored, by_bus_rule, deliver_step, newest, stays, with_sent}
 use Rattle.packet_store.specs.Transactions.{begun_by}
-use Rattle.sbp_bus.specs.Generations.{node_of}
-use Rattle.sbp_journal.specs.declared.outbox.Outgoing.{Outgoing}
-use Rattle.sbp_journal.specs.Outgoings.{OutboxState}
-use Rattle.sbp_laws.specs.Packets.{access_in_bytes}
-use Rattle.sbp_world.specs.Delivering.{marked}
-use Rattle.sbp_world.specs.Handing.{handed_out}
-use Rattle.sbp_world.specs.Sending.{asked, posted, sent, sent_all, sent_to}
-use Rattle.sbp_world.specs.Telling.{told_all}
-use Rattle.sbp_world.specs.Worlds.{WorldState}
 use Rattle.sbp_world.proofs.Agents.Peers.{all_told_store}
 use Rattle.sbp_world.proofs.Pointers.Quiet.{AreQuiet, writes_in}
 

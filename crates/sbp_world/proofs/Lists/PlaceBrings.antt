@@ -1,26 +1,12 @@
 -- The responses of every run to reads of management ORBs bring the ORBs that stood in their places.
-use Rattle.std.proofs.Common.{arith, ◌≡◌, sym, ◌∙◌, ap, subst, ℕ, suc, ◌+◌, ◌<◌, List, ◌∷◌, ◌++◌, map, Option, Some}
-use Rattle.async_packet.specs.Packet.{Packet}
-use Rattle.async_packet.specs.Reading.{reading}
+use Rattle.sbp_world.proofs.Words.Std.{arith, ◌≡◌, sym, ◌∙◌, ap, subst, ℕ, suc, ◌+◌, ◌<◌, List, ◌∷◌, ◌++◌, map, Option, Some}
+use Rattle.sbp_world.proofs.Words.Wire.{Packet, reading, SerialsCount, Access, Moment, said, terms, Event}
+use Rattle.sbp_world.proofs.Words.Target.{Told}
+use Rattle.sbp_world.proofs.Words.Initiator.{start}
+use Rattle.sbp_world.proofs.Words.Laws.{IsRead, answer_in, packet_at, packet_in, receiver_in, spelled_by}
+use Rattle.sbp_world.proofs.Words.World.{history_of, Run, after, beginning, MayAll, begun, IsDelivering, IsResponse, Remains, IsRun, BringPlaces, BringsPlace, PlaceReadsLaw}
 use Rattle.bus_memory.specs.declared.window.Window.TheVariants as windows
-use Rattle.bus_memory.specs.Windows.{start}
-use Rattle.bus_transactions.specs.Packets.{SerialsCount}
-use Rattle.rbc_disk.specs.Runs.{Told}
-use Rattle.sbp_journal.specs.Addresses.{Access}
-use Rattle.sbp_journal.specs.Run.{Moment, said}
-use Rattle.sbp_journal.specs.Wire.{terms}
-use Rattle.sbp_journal.specs.declared.event.Event.{Event}
 use Rattle.sbp_journal.specs.declared.note.Note.TheVariants as notes
-use Rattle.sbp_laws.specs.CarriedBytes.{IsRead}
-use Rattle.sbp_laws.specs.Packets.{answer_in, packet_at, packet_in, receiver_in, spelled_by}
-use Rattle.sbp_world.specs.Histories.{history_of}
-use Rattle.sbp_world.specs.Runs.{Run, after, beginning}
-use Rattle.sbp_world.specs.Settling.{MayAll}
-use Rattle.sbp_world.specs.Worlds.{begun}
-use Rattle.sbp_world.specs.Hosts.Answering.{IsDelivering}
-use Rattle.sbp_world.specs.Hosts.Carrying.{IsResponse}
-use Rattle.sbp_world.specs.Hosts.Remaining.{Remains}
-use Rattle.sbp_world.specs.Hosts.Runs.{IsRun}
 use Rattle.sbp_world.proofs.Hosts.Between.{OfWire, between, of_wire, of_wire_there}
 use Rattle.sbp_world.proofs.Hosts.Deliveries.{GotsIn, find_got}
 use Rattle.sbp_world.proofs.Hosts.Owing.{GotBehind, asks, block, got_behind, replied, to_it}
@@ -28,7 +14,6 @@ use Rattle.sbp_world.proofs.Hosts.Remaining.{remains}
 use Rattle.sbp_world.proofs.Hosts.SentMoments.{count_now, sent_there, serials_from}
 use Rattle.sbp_world.proofs.Hosts.SlotIgnored.{AllWrites}
 use Rattle.sbp_world.proofs.Hosts.Slotted.{writes_between, writes_of}
-use Rattle.sbp_world.specs.Lists.PlaceReads.{BringPlaces, BringsPlace, PlaceReadsLaw}
 use Rattle.sbp_world.proofs.Lists.PlaceGots.{Goes, IsGot, gots_between, gots_of}
 use Rattle.sbp_world.proofs.Lists.PlaceReplies.{IsPlaceReplied}
 

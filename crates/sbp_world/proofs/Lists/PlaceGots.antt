@@ -1,31 +1,12 @@
 -- Where an initiator got a read of a place of management, the history goes on with the response that brings the ORB of that place.
-use Rattle.std.proofs.Common.{◌≡◌, refl, sym, ◌∙◌, ap, subst, ℕ, suc, ◌<◌, ◌^◌, Bool, List, [], ◌∷◌, ◌++◌, map, Option, Some, None, Result, Ok, Err, append_assoc}
-use Rattle.std.proofs.lemmas.Option.{same_Some}
-use Rattle.async_packet.specs.Packet.{Packet}
-use Rattle.async_packet.specs.Reading.{reading}
-use Rattle.async_packet.specs.declared.fault.PacketFault.{PacketFault}
-use Rattle.bus_memory.specs.Access.{read_step}
-use Rattle.bus_transactions.specs.Wire.{as_sending}
-use Rattle.rbc_disk.specs.Runs.{Told}
-use Rattle.sbp_initiator.specs.declared.state.InitiatorState.{InitiatorState}
-use Rattle.sbp_journal.specs.Addresses.{Access, access_of}
-use Rattle.sbp_journal.specs.Run.{Moment, asked, said}
-use Rattle.sbp_journal.specs.Transactions.{Sending}
-use Rattle.sbp_journal.specs.Wire.{terms}
-use Rattle.sbp_journal.specs.declared.event.Event.{Event}
+use Rattle.sbp_world.proofs.Words.Std.{◌≡◌, refl, sym, ◌∙◌, ap, subst, ℕ, suc, ◌<◌, ◌^◌, Bool, List, [], ◌∷◌, ◌++◌, map, Option, Some, None, Result, Ok, Err, append_assoc, same_Some}
+use Rattle.sbp_world.proofs.Words.Wire.{Packet, reading, PacketFault, as_sending, Access, access_of, Moment, asked, said, Sending, terms, Event, Note}
+use Rattle.sbp_world.proofs.Words.Target.{Told}
+use Rattle.sbp_world.proofs.Words.Initiator.{read_step, InitiatorState}
+use Rattle.sbp_world.proofs.Words.Laws.{packet_in, receiver_in, spelled_by, host_reply, window_gives}
+use Rattle.sbp_world.proofs.Words.World.{delivered, history_of, Run, after, beginning, MayAll, Scene, begun, initiator_at, IsDelivering, IsDelivered, front_of, IsReadBy, IsRun, more_deliveries, ArePlaces}
 use Rattle.sbp_journal.specs.declared.event.Event.TheVariants as events
-use Rattle.sbp_journal.specs.declared.note.Note.{Note}
-use Rattle.sbp_laws.specs.Packets.{packet_in, receiver_in, spelled_by}
-use Rattle.sbp_laws.specs.Served.{host_reply, window_gives}
-use Rattle.sbp_world.specs.Delivering.{delivered}
-use Rattle.sbp_world.specs.Histories.{history_of}
-use Rattle.sbp_world.specs.Runs.{Run, after, beginning}
-use Rattle.sbp_world.specs.Settling.{MayAll}
-use Rattle.sbp_world.specs.Worlds.{Scene, begun, initiator_at}
-use Rattle.sbp_world.specs.Hosts.Answering.{IsDelivering}
-use Rattle.sbp_world.specs.Hosts.Deliveries.{IsDelivered, WasGot, front_of}
-use Rattle.sbp_world.specs.Hosts.Reads.{IsReadBy}
-use Rattle.sbp_world.specs.Hosts.Runs.{IsRun, more_deliveries}
+use Rattle.sbp_world.specs.Hosts.Deliveries.{WasGot}
 use Rattle.sbp_world.proofs.Hosts.AnsweringSends.{Gets}
 use Rattle.sbp_world.proofs.Hosts.Between.{between, stands_there, there}
 use Rattle.sbp_world.proofs.Hosts.Deliveries.{GotsAre, GotsIn, Here, all_gots, map_in, run_gots, said_gots}
@@ -35,7 +16,6 @@ use Rattle.sbp_world.proofs.Lists.PlaceReplies.{FewCodes, IsPlaceReplied, is_pla
 use Rattle.sbp_world.proofs.Hosts.MemoryReads.{memory_law}
 use Rattle.sbp_world.proofs.Hosts.ResponseBytes.{IsBlockRead}
 use Rattle.sbp_world.proofs.Hosts.ResponseTells.{rcode_small, read_code}
-use Rattle.sbp_world.specs.Sessions.Placed.{ArePlaces}
 use Rattle.sbp_world.proofs.Sessions.PlaceRuns.{placed_law}
 use Rattle.sbp_world.proofs.Common.{said_joined as said_append}
 

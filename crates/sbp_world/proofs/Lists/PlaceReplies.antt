@@ -1,40 +1,22 @@
 -- A block read of a place of management that an initiator gets in a delivery is answered from its memory: with the ORB that stands there.
-use Rattle.std.proofs.Common.{Bool, arith, ◌≡◌, refl, sym, ◌∙◌, ap, ℕ, suc, ◌+◌, ◌-◌, ◌<◌, ◌≤◌, ◌^◌, List, [], ◌∷◌, ◌++◌, drop, map, length, replicate, take, Option, Some, None, Ok}
-use Rattle.std.proofs.lemmas.List.{length-replicate, take_all}
-use Rattle.async_packet.specs.Reading.{reading}
-use Rattle.bus_memory.specs.declared.window.Window.{Window}
+use Rattle.sbp_world.proofs.Words.Std.{Bool, arith, ◌≡◌, refl, sym, ◌∙◌, ap, ℕ, suc, ◌+◌, ◌-◌, ◌<◌, ◌≤◌, ◌^◌, List, [], ◌∷◌, ◌++◌, drop, map, length, replicate, take, Option, Some, None, Ok, length-replicate, take_all}
+use Rattle.sbp_world.proofs.Words.Wire.{reading, Access, access_of, empty_outbox, Moment, said, of_request, Note, terms}
+use Rattle.sbp_world.proofs.Words.Target.{Told}
+use Rattle.sbp_world.proofs.Words.Initiator.{Window, judged, read_step, new_memory, start, window_at, Payload, ManagementOrb, InitiatorState, receive_step}
+use Rattle.sbp_world.proofs.Words.Laws.{IsRead, answer_in, id_of, spelled_by, place_bytes, place_held, window_gives}
+use Rattle.sbp_world.proofs.Words.World.{delivered, Scene, initiator_at, history, IsReadOf, ArePlaces}
 use Rattle.bus_memory.specs.declared.window.Window.TheVariants as windows
-use Rattle.bus_memory.specs.Access.{judged, read_step}
-use Rattle.bus_memory.specs.Memory.{new_memory}
-use Rattle.bus_memory.specs.Windows.{start, window_at}
 use Rattle.bus_memory.specs.declared.access.Access.TheVariants.{Read}
 use Rattle.bus_memory.proofs.Found.{window_here}
-use Rattle.orb_layout.specs.Replies.{Payload}
-use Rattle.orb_layout.specs.declared.management.ManagementOrb.{ManagementOrb}
-use Rattle.rbc_disk.specs.Runs.{Told}
-use Rattle.sbp_initiator.specs.declared.state.InitiatorState.{InitiatorState}
-use Rattle.sbp_initiator.specs.Receiving.{receive_step}
-use Rattle.sbp_journal.specs.Addresses.{Access, access_of}
-use Rattle.sbp_journal.specs.Outgoings.{empty_outbox}
-use Rattle.sbp_journal.specs.Run.{Moment, said}
-use Rattle.label_table.specs.Layer.{of_request}
-use Rattle.sbp_journal.specs.declared.note.Note.{Note}
 use Rattle.sbp_journal.specs.declared.note.Note.TheVariants as notes
-use Rattle.sbp_journal.specs.Wire.{terms}
-use Rattle.sbp_laws.specs.CarriedBytes.{IsRead, bytes_in}
-use Rattle.sbp_laws.specs.Packets.{answer_in, id_of, spelled_by}
-use Rattle.sbp_laws.specs.Served.{Reply, place_bytes, place_held, window_gives}
-use Rattle.sbp_world.specs.Delivering.{delivered}
-use Rattle.sbp_world.specs.Worlds.{Scene, initiator_at}
+use Rattle.sbp_laws.specs.CarriedBytes.{bytes_in}
+use Rattle.sbp_laws.specs.Served.{Reply}
 use Rattle.sbp_world.proofs.Wire.Holding.{Sound}
-use Rattle.sbp_world.specs.Hosts.Handing.{history}
-use Rattle.sbp_world.specs.Hosts.Reads.{IsReadOf}
 use Rattle.sbp_world.proofs.Hosts.Answering.{answer, asks_block}
 use Rattle.sbp_world.proofs.Hosts.AnsweringBlocks.{block_answered}
 use Rattle.sbp_world.proofs.Hosts.AnsweringSends as sends
 use Rattle.sbp_world.proofs.Hosts.AnsweringSends.{Gets}
 use Rattle.sbp_world.proofs.Hosts.ResponseBytes.{IsBlockRead, asked_most, completes, tells_given}
-use Rattle.sbp_world.specs.Sessions.Placed.{ArePlaces}
 use Rattle.sbp_world.proofs.Hosts.Replies.{read_short, same_access}
 
 -- the bytes of a place are those of one ORB

@@ -1,53 +1,24 @@
 -- An operation of the target of an initiator that injected no packets has its ORB in one of the initiator's places of management, where each login that the initiator
 -- was done with was granted an agent of a place.
-use Rattle.std.proofs.Common.{arith, ◌≡◌, ◌∙◌, inl, inr, ◌⊎◌, refl, sym, ap, subst, ℕ, suc, ◌%◌, ◌<◌, ◌==◌, ◌&&◌, nat_eq, Bool, true, false, cond, List, [], ◌∷◌, length, Option, Some, None}
-use Rattle.std.proofs.lemmas.Bool.Decides.{nat_tests}
-use Rattle.async_packet.specs.declared.packet.Header.{Header}
-use Rattle.async_packet.specs.Packet.{Packet, lock, lock_response, read_block, read_block_response, read_quadlet, read_quadlet_response, write_block, write_quadlet, write_response}
+use Rattle.sbp_world.proofs.Words.Std.{arith, ◌≡◌, ◌∙◌, inl, inr, ◌⊎◌, refl, sym, ap, subst, ℕ, suc, ◌%◌, ◌<◌, ◌==◌, ◌&&◌, nat_eq, Bool, true, false, cond, List, [], ◌∷◌, length, Option, Some, None, nat_tests}
+use Rattle.sbp_world.proofs.Words.Wire.{Header, Packet, lock, lock_response, read_block, read_block_response, read_quadlet, read_quadlet_response, write_block, write_quadlet, write_response, Node, as_sending, Finding, judging_step, of_request, Sent, found_sent, Access, access_of, Moment, asked, said, Sending, Terms, terms, Action, HostOperation}
+use Rattle.sbp_world.proofs.Words.Target.{Operation, Disk, accessed, accessed_at, by_address, by_register, by_rom, by_type, demand_by, demand_of, management_start, offset_in, or_nowhere, reached, Row, row_of, register_at, served_by, AgentAccess, AgentRegister, Demand}
+use Rattle.sbp_world.proofs.Words.Initiator.{start_of, behind_by, LoginResponse, ManagementOrb, offset_at}
+use Rattle.sbp_world.proofs.Words.Laws.{host_at, is_management, operation_of, ready_host, access_in, access_in_bytes, spelled_by, is_own, management_orb_of, place_held, place_written, EachMoment, event_of}
+use Rattle.sbp_world.proofs.Words.World.{NoneInjected, MayAsk, MayWrite, managed_write, manages, writes_bell, writes_enable, writes_management, writes_pointer, writes_reset, WorldState, Stands, IsAsked, IsCalm, BasedAt, HasBase, IsInAPlace, RingsAt}
 use Rattle.bus_memory.specs.declared.window.Window.TheVariants as windows
-use Rattle.bus_memory.specs.Windows.{start as start_of}
-use Rattle.bus_transactions.specs.Wire.{Node, as_sending}
-use Rattle.sbp_world.specs.Hosts.Carrying.{NoneInjected}
 use Rattle.sbp_world.proofs.Hosts.SentMoments.{WasSent, sent_moment}
-use Rattle.initiator_base.specs.Places.{behind_by}
-use Rattle.label_table.specs.Layer.{Finding, judging_step, of_request}
-use Rattle.mgmt_agent.specs.declared.operation.Operation.{Operation}
-use Rattle.orb_layout.specs.declared.login.LoginResponse.{LoginResponse}
-use Rattle.orb_layout.specs.declared.management.ManagementOrb.{ManagementOrb}
-use Rattle.orb_layout.specs.Pointers.{offset_at}
-use Rattle.packet_store.specs.declared.sent.Sent.{Sent}
-use Rattle.packet_store.specs.Kept.{found_sent}
-use Rattle.sbp_world.specs.Pointers.Moments.{MayAsk, MayWrite, managed_write, manages, writes_bell, writes_enable, writes_management, writes_pointer, writes_reset}
-use Rattle.rbc_disk.specs.Disk.{Disk}
-use Rattle.sbp_journal.specs.Addresses.{Access, access_of}
-use Rattle.sbp_journal.specs.Run.{Moment, asked, said}
-use Rattle.sbp_journal.specs.Transactions.{Sending}
-use Rattle.sbp_journal.specs.Wire.{Terms, terms}
-use Rattle.sbp_journal.specs.declared.event.Action.{Action}
 use Rattle.sbp_journal.specs.declared.event.Event.TheVariants as events
 use Rattle.sbp_journal.specs.declared.note.Note.TheVariants as notes
 use Rattle.sbp_journal.specs.declared.operation.Operation.TheVariants as operations
 use Rattle.sbp_journal.specs.declared.operation.OpWord.TheVariants as words
-use Rattle.sbp_journal.specs.declared.operation.Operation.{Operation as HostOperation}
-use Rattle.sbp_laws.specs.Hosts.{host_at, is_management, operation_of, ready_host}
-use Rattle.sbp_laws.specs.Packets.{access_in, access_in_bytes, spelled_by}
-use Rattle.sbp_laws.specs.Served.{is_own, management_orb_of, place_held, place_written}
-use Rattle.sbp_laws.specs.Turns.{EachMoment, event_of}
-use Rattle.sbp_world.specs.Worlds.{WorldState}
-use Rattle.sbp_world.specs.Wire.Wires.{Stands}
 use Rattle.sbp_world.proofs.Wire.Bus.{holds}
-use Rattle.target_base.specs.Addresses.{accessed, accessed_at, by_address, by_register, by_rom, by_type, demand_by, demand_of, managed, management_start, offset_in, or_nowhere, reached, Row, row_of, register_at, served, served_by}
-use Rattle.target_base.specs.declared.address.Access.{Access as AgentAccess}
-use Rattle.target_base.specs.declared.address.AgentRegister.{AgentRegister}
-use Rattle.target_base.specs.declared.address.Demand.{Demand}
+use Rattle.target_base.specs.Addresses.{managed, served}
 use Rattle.target_base.specs.declared.address.Demand.TheVariants as demands
 use Rattle.sbp_target.proofs.Histories.Found.{IsFound, found as found_as}
 use Rattle.sbp_world.proofs.Agents.Management.Hearing.{request_current}
 use Rattle.sbp_world.proofs.Agents.Management.Holding.{Holding, is_of, known_id, past_terms, same_id, was_sent}
 use Rattle.sbp_world.proofs.Agents.Management.Still.{hist}
-use Rattle.sbp_world.specs.Sessions.Starting.{IsAsked}
-use Rattle.sbp_world.specs.Lists.Needs.{IsCalm}
-use Rattle.sbp_world.specs.Lists.Placings.{BasedAt, HasBase, IsInAPlace, RingsAt}
 use Rattle.sbp_world.proofs.Lists.HostLogins.{GrantsAt, login_good}
 use Rattle.sbp_world.proofs.Lists.LiveSteps.{id_in}
 use Rattle.sbp_world.proofs.Lists.ManageTerms.{none_is, same_some}

@@ -1,23 +1,14 @@
 -- A list whose ORB_POINTER write the target takes was open at an agent from then on: the write names an ORB of it as it is got, and came from its initiator.
-use Rattle.std.proofs.Common.{arith, ◌≡◌, ◌∙◌, refl, sym, ap, ◌<◌, ℕ, nat_lt, Bool, true, cond, List, [], length, None}
-use Rattle.std.proofs.lemmas.Bool.Decides.{nat_tests}
-use Rattle.bus_memory.specs.Windows.{slot_of}
-use Rattle.bus_transactions.specs.Wire.{as_sending}
-use Rattle.command_agent.specs.Steps.{point_step}
-use Rattle.orb_list.specs.Lists.{last_at}
-use Rattle.rbc_disk.specs.Disk.{Disk}
+use Rattle.sbp_world.proofs.Words.Std.{arith, ◌≡◌, ◌∙◌, refl, sym, ap, ◌<◌, ℕ, nat_lt, Bool, true, cond, List, [], length, None, nat_tests}
+use Rattle.sbp_world.proofs.Words.Wire.{as_sending, Moment}
+use Rattle.sbp_world.proofs.Words.Target.{point_step, Disk, orb_of}
+use Rattle.sbp_world.proofs.Words.Initiator.{slot_of, last_at}
+use Rattle.sbp_world.proofs.Words.Laws.{list_in, named_in}
+use Rattle.sbp_world.proofs.Words.World.{ticket_at, WorldState, initiator_at, AreHeldAt, AreRows, initiator_in, machine_at}
 use Rattle.sbp_bus.specs.Telling as bus
-use Rattle.sbp_journal.specs.Run.{Moment}
-use Rattle.sbp_laws.specs.Lists.{list_in, named_in}
-use Rattle.sbp_target.specs.Telling.{orb_of}
-use Rattle.sbp_world.specs.Telling.{ticket_at}
-use Rattle.sbp_world.specs.Worlds.{WorldState, initiator_at}
 use Rattle.target_base.specs.declared.address.Access.TheVariants as accesses
 use Rattle.sbp_world.proofs.Agents.Management.Holding.{Holding, was_sent}
 use Rattle.sbp_world.proofs.Agents.Management.Still.{hist}
-use Rattle.sbp_world.specs.Agents.Holders.{AreHeldAt}
-use Rattle.sbp_world.specs.Hosts.Fits.{AreRows}
-use Rattle.sbp_world.specs.Lists.Needs.{initiator_in, machine_at}
 use Rattle.sbp_world.proofs.Lists.OpenOwners.{came_from}
 use Rattle.sbp_world.proofs.Lists.OpenWorlds.{named_list, taken}
 use Rattle.sbp_world.proofs.Lists.Takings.{AllTake}

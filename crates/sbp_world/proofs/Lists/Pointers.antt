@@ -1,17 +1,10 @@
 -- What an agent does with a doorbell and with a pointer, by itself.
-use Rattle.std.proofs.Common.{◌≡◌, refl, sym, ℕ, true, false, Ok, Err}
-use Rattle.orb_layout.specs.declared.ask.Ask.{Ask}
-use Rattle.orb_layout.specs.declared.ask.Ask.TheVariants.{Nothing}
-use Rattle.orb_layout.specs.declared.pointer.OrbPointer.{OrbPointer}
-use Rattle.orb_layout.specs.declared.pointer.OrbPointer.TheVariants.{Null, At}
-use Rattle.command_agent.specs.declared.phase.Phase.{Phase}
+use Rattle.sbp_world.proofs.Words.Std.{◌≡◌, refl, sym, ℕ, true, false, Ok, Err}
+use Rattle.sbp_world.proofs.Words.Target.{Phase, AgentState, PointRefusal, Machine, state_in, doorbell_step, fetch_step, point_in, point_step}
+use Rattle.sbp_world.proofs.Words.Initiator.{Ask, Nothing, OrbPointer, Null, At}
+use Rattle.sbp_world.proofs.Words.World.{has_list}
 use Rattle.command_agent.specs.declared.phase.Phase.TheVariants as phases
-use Rattle.command_agent.specs.declared.step.AgentState.{AgentState}
 use Rattle.command_agent.specs.declared.step.AgentState.TheVariants as states
-use Rattle.command_agent.specs.declared.step.PointRefusal.{PointRefusal}
-use Rattle.command_agent.specs.Machine.{Machine, state_in}
-use Rattle.command_agent.specs.Steps.{doorbell_step, fetch_step, point_in, point_step}
-use Rattle.sbp_world.specs.Agents.Alike.{has_list}
 use Rattle.sbp_world.proofs.Lists.Stands.{no}
 
 -- ---- a doorbell that nobody hears

@@ -1,11 +1,10 @@
 -- Over the turn of a packet that the target gets an agent of the terms keeps its pointer, or took one in it.
-use Rattle.std.proofs.Common.{◌≡◌, refl, ℕ, zero, suc, Bool, true, false, cond, List, [], ◌∷◌, Option, Some, None, Ok, Err}
-use Rattle.std.specs.Prelude.{slice_set}
-use Rattle.sbp_journal.specs.Addresses.{Access, Register, Start, agent_reset, agent_state, doorbell, management_agent, no_start, orb_pointer, register, rom_start, start_at, start_serves, unsolicited_enable}
-use Rattle.sbp_laws.specs.Targets.{Agent, Target, agent_at, cut_agent, points, register_got, request_got, rings, start_got, started_by}
-use Rattle.orb_layout.specs.Pointers.{offset_at}
+use Rattle.sbp_world.proofs.Words.Std.{◌≡◌, refl, ℕ, zero, suc, Bool, true, false, cond, List, [], ◌∷◌, Option, Some, None, Ok, Err, slice_set}
+use Rattle.sbp_world.proofs.Words.Wire.{Access, Register, Start, agent_reset, agent_state, doorbell, management_agent, no_start, orb_pointer, register, rom_start, start_at, start_serves, unsolicited_enable}
+use Rattle.sbp_world.proofs.Words.Initiator.{offset_at}
+use Rattle.sbp_world.proofs.Words.Laws.{Agent, Target, agent_at, cut_agent, points, register_got, request_got, rings, start_got, started_by}
+use Rattle.sbp_world.proofs.Words.World.{agent_in}
 use Rattle.mgmt_agent.specs.Machine as manager
-use Rattle.sbp_world.specs.Agents.Crews.{agent_in}
 use Rattle.sbp_world.proofs.Lists.AgentGoes.{set_goes, starts_by, stay}
 use Rattle.sbp_world.proofs.Lists.PointersHeld.{AllHold, Holds, are_going, cuts}
 use Rattle.sbp_world.proofs.Lists.PointersTaken.{Taken, held_taken, points_taken, rings_held, self_taken}

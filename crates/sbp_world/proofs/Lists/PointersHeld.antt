@@ -1,23 +1,13 @@
 -- Behind the first note of a turn an agent of the terms keeps the pointer that it took last, while it has a list; and it had one before.
-use Rattle.std.proofs.Common.{◌≡◌, ◌∙◌, refl, sym, ap, ℕ, Bool, true, false, cond, List, Option, Some, Result, Ok, Err}
-use Rattle.command_agent.specs.declared.step.AgentStep.{AgentStep}
-use Rattle.command_agent.specs.declared.step.Which.{Which}
-use Rattle.command_agent.specs.declared.step.Which.TheVariants.{Ahead, Main}
-use Rattle.command_agent.specs.Machine.{Machine, is_ahead}
-use Rattle.command_agent.specs.declared.phase.Phase.{Phase}
+use Rattle.sbp_world.proofs.Words.Std.{◌≡◌, ◌∙◌, refl, sym, ap, ℕ, Bool, true, false, cond, List, Option, Some, Result, Ok, Err}
+use Rattle.sbp_world.proofs.Words.Target.{AgentStep, Which, Ahead, Main, Machine, is_ahead, Phase, advanced, ahead_step, quiet, reply_step, served, told_or, PlainDisk, Told}
+use Rattle.sbp_world.proofs.Words.Initiator.{FailCause, payload_of, Nothing, Answer}
+use Rattle.sbp_world.proofs.Words.Laws.{Agent, Reply, agent_over, closed, cut_agent, is_nothing, main_lost, moved, new_agent, sends_of, wants}
+use Rattle.sbp_world.proofs.Words.World.{has_list}
 use Rattle.command_agent.specs.declared.phase.Phase.TheVariants as phases
-use Rattle.command_agent.specs.Steps.{advanced, ahead_step, quiet, reply_step, served, told_or}
-use Rattle.orb_layout.specs.declared.ask.FailCause.{FailCause}
-use Rattle.orb_layout.specs.Replies.{payload_of}
-use Rattle.rbc_disk.specs.Units.{PlainDisk}
 use Rattle.command_agent.specs.Steps as steps
-use Rattle.orb_layout.specs.declared.ask.Ask.TheVariants.{Nothing}
 use Rattle.orb_layout.specs.declared.ask.FailCause.TheVariants as causes
-use Rattle.orb_layout.specs.Replies.{Answer}
-use Rattle.rbc_disk.specs.Runs.{Told}
-use Rattle.sbp_laws.specs.Targets.{Agent, Reply, agent_over, closed, cut_agent, is_nothing, main_lost, moved, new_agent, sends_of, wants}
 use Rattle.sbp_world.proofs.Lists.AgentGoes.{AllGo, AreGoing}
-use Rattle.sbp_world.specs.Agents.Alike.{has_list}
 use Rattle.sbp_world.proofs.Common.{untrue}
 
 -- ---- an agent

@@ -1,19 +1,14 @@
 -- Over a turn an agent of the terms that has a list keeps the pointer that it took before; or it took one in this turn, and reads the ORB there, or has lost this read: a request brings no
 -- reply, so its machine makes no other step behind it.
-use Rattle.std.proofs.Common.{inl, inr, ◌⊎◌, ◌≡◌, refl, sym, ap, ◌==◌, ◌/◌, ◌^◌, ℕ, Bool, true, false, cond, List, Some}
-use Rattle.command_agent.specs.declared.phase.Phase.{Phase}
+use Rattle.sbp_world.proofs.Words.Std.{inl, inr, ◌⊎◌, ◌≡◌, refl, sym, ap, ◌==◌, ◌/◌, ◌^◌, ℕ, Bool, true, false, cond, List, Some, quad}
+use Rattle.sbp_world.proofs.Words.Wire.{Access}
+use Rattle.sbp_world.proofs.Words.Target.{Phase, AgentState, aligned, state_in}
+use Rattle.sbp_world.proofs.Words.Initiator.{OrbPointer, At, Null, offset_at, pointer_at}
+use Rattle.sbp_world.proofs.Words.Laws.{Agent, pointed_by, points, rings}
+use Rattle.sbp_world.proofs.Words.World.{has_list}
 use Rattle.command_agent.specs.declared.phase.Phase.TheVariants as phases
-use Rattle.command_agent.specs.declared.step.AgentState.{AgentState}
 use Rattle.command_agent.specs.declared.step.AgentState.TheVariants as states
-use Rattle.command_agent.specs.Machine.{aligned, state_in}
 use Rattle.command_agent.specs.Steps as steps
-use Rattle.sbp_base.specs.Quadlets.{quad}
-use Rattle.sbp_journal.specs.Addresses.{Access}
-use Rattle.orb_layout.specs.declared.pointer.OrbPointer.{OrbPointer}
-use Rattle.orb_layout.specs.declared.pointer.OrbPointer.TheVariants.{At, Null}
-use Rattle.orb_layout.specs.Pointers.{offset_at, pointer_at}
-use Rattle.sbp_laws.specs.Targets.{Agent, pointed_by, points, rings}
-use Rattle.sbp_world.specs.Agents.Alike.{has_list}
 use Rattle.sbp_world.proofs.Lists.PointersHeld.{Holds, self as held_self}
 
 -- ---- an agent

@@ -1,39 +1,13 @@
 -- In every run in which no initiator injected packets, or few logins were given, the ORB of each run of an initiator that injected none was read behind its append, by the response behind which its agent read its buffer and its data:
 -- the carried law holds of it, where that of nobody's requests does.
-use Rattle.std.proofs.Common.{arith, ◌≡◌, ◌∙◌, sym, ap, subst, IsSomeAnd, ◌<◌, ◌≤◌, ℕ, suc, Bool, false, List, [], ◌∷◌, ◌++◌, map, Some, None, Option}
-use Rattle.bus_transactions.specs.Judging.{AreJudged}
-use Rattle.rbc_disk.specs.Disk.{Disk}
-use Rattle.sbp_journal.specs.Run.{Moment, asked, said}
-use Rattle.sbp_journal.specs.declared.note.Note.{Note}
+use Rattle.sbp_world.proofs.Words.Std.{arith, ◌≡◌, ◌∙◌, sym, ap, subst, IsSomeAnd, ◌<◌, ◌≤◌, ℕ, suc, Bool, false, List, [], ◌∷◌, ◌++◌, map, Some, None, Option}
+use Rattle.sbp_world.proofs.Words.Wire.{AreJudged, Moment, asked, said, Note}
+use Rattle.sbp_world.proofs.Words.Target.{Disk, limit_of}
+use Rattle.sbp_world.proofs.Words.Initiator.{bytes_of, chunks}
+use Rattle.sbp_world.proofs.Words.Laws.{address_of, buffer_in, joined, orb_read, reads_since, appends, lists, plan_of, request_at, injectors, RunIsCarried, slot_at, IsOpen, OrderLaw, EachMoment}
+use Rattle.sbp_world.proofs.Words.World.{history_of, after, beginning, after_all, begun, more_deliveries, AheadAsGot, AheadAsGotLaw, AllAhead, RunWasRead, OpenListsLaw, RunIsNamedFed, AreOwnOrOthers, RunIsFed, RunIsSince, ManagedAsGot, ManagedAsGotLaw, IsCalm, AllNobodyElsewhere, NobodyAsGot, NobodyAsGotLaw, OneUpLaw, SentAsGot, OwnAsGot, AllAwaited, ReadAndFedAt, ReadAndFedLaw, RunWasReadAndFed}
 use Rattle.sbp_journal.specs.declared.note.Note.TheVariants as notes
-use Rattle.command_agent.specs.Machine.{limit_of}
-use Rattle.page_table.specs.Buffer.{bytes_of, chunks}
-use Rattle.sbp_laws.specs.CarriedBytes.{address_of, buffer_in, joined, orb_read, reads_since}
-use Rattle.sbp_laws.specs.Terms.{appends, lists, plan_of, request_at}
-use Rattle.sbp_laws.specs.Lawful.{injectors}
-use Rattle.sbp_laws.specs.CarriedLaw.{RunIsCarried}
-use Rattle.sbp_laws.specs.Lists.{slot_at}
-use Rattle.sbp_laws.specs.OrderLaw.{IsOpen, OrderLaw}
-use Rattle.sbp_laws.specs.Turns.{EachMoment}
-use Rattle.sbp_world.specs.Histories.{history_of}
-use Rattle.sbp_world.specs.Runs.{after, beginning}
-use Rattle.sbp_world.specs.Settling.{after_all}
-use Rattle.sbp_world.specs.Worlds.{begun}
-use Rattle.sbp_world.specs.Hosts.Runs.{more_deliveries}
-use Rattle.sbp_world.specs.Lists.AheadGots.{AheadAsGot, AheadAsGotLaw}
-use Rattle.sbp_world.specs.Lists.AheadOrbs.{AllAhead}
-use Rattle.sbp_world.specs.Lists.CarriedEnds.{RunWasRead}
-use Rattle.sbp_world.specs.Lists.Closes.{OpenListsLaw}
-use Rattle.sbp_world.specs.Lists.FedNames.{RunIsNamedFed}
-use Rattle.sbp_world.specs.Lists.FedRuns.{AreOthers, AreOwnOrOthers, RunIsFed, RunIsSince}
-use Rattle.sbp_world.specs.Lists.ManagedGots.{ManagedAsGot, ManagedAsGotLaw}
-use Rattle.sbp_world.specs.Lists.Needs.{IsCalm}
-use Rattle.sbp_world.specs.Lists.NobodyGots.{AllNobodyElsewhere, NobodyAsGot, NobodyAsGotLaw}
-use Rattle.sbp_world.specs.Lists.OneUp.{OneUpLaw}
-use Rattle.sbp_world.specs.Lists.OrbReads.{SentAsGot}
-use Rattle.sbp_world.specs.Lists.OwnGots.{OwnAsGot}
-use Rattle.sbp_world.specs.Lists.OwnSince.{AllAwaited}
-use Rattle.sbp_world.specs.Lists.ReadFeeds.{ReadAndFedAt, ReadAndFedLaw, RunWasReadAndFed}
+use Rattle.sbp_world.specs.Lists.FedRuns.{AreOthers}
 use Rattle.sbp_world.proofs.Lists.AheadOrbs.{others_ahead}
 use Rattle.sbp_world.proofs.Lists.Calm.{calm_before}
 use Rattle.sbp_world.proofs.Lists.CarriedEnds.{run_read, run_read_by}

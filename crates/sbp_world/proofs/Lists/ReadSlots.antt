@@ -1,27 +1,13 @@
 -- The slot and the number of the ORB that a read of an agent along a list is about.
-use Rattle.std.proofs.Common.{arith, ◌≡◌, ◌∙◌, refl, sym, ap, subst, inl, inr, ◌⊎◌, ◌<◌, ◌≤◌, ℕ, suc, ◌-◌, Bool, true, false, List, length, Some}
-use Rattle.bus_memory.specs.Windows.{window_at}
-use Rattle.command_agent.specs.declared.phase.Phase.{Phase}
+use Rattle.sbp_world.proofs.Words.Std.{arith, ◌≡◌, ◌∙◌, refl, sym, ap, subst, inl, inr, ◌⊎◌, ◌<◌, ◌≤◌, ℕ, suc, ◌-◌, Bool, true, false, List, length, Some}
+use Rattle.sbp_world.proofs.Words.Wire.{Access, Moment, Cmd}
+use Rattle.sbp_world.proofs.Words.Target.{Phase, ReadAhead, Which, Ahead, Main, Machine, aligned, is_ahead, Along, Knows, KnowsAhead, Progress, ReadsAhead, ahead_ask, ahead_under, main_ask, main_under, Brings, number_behind}
+use Rattle.sbp_world.proofs.Words.Initiator.{window_at, Ask, OrbPointer, At, Null, Answer}
+use Rattle.sbp_world.proofs.Words.Laws.{command_at, linked, slot_at}
+use Rattle.sbp_world.proofs.Words.World.{IsAccessFor, read_access, slot_in}
 use Rattle.command_agent.specs.declared.phase.Phase.TheVariants as phases
-use Rattle.command_agent.specs.declared.phase.ReadAhead.{ReadAhead}
 use Rattle.command_agent.specs.declared.phase.ReadAhead.TheVariants as aheads
-use Rattle.command_agent.specs.declared.step.Which.{Which}
-use Rattle.command_agent.specs.declared.step.Which.TheVariants.{Ahead, Main}
-use Rattle.command_agent.specs.Machine.{Machine, aligned, is_ahead}
-use Rattle.orb_layout.specs.declared.ask.Ask.{Ask}
-use Rattle.orb_layout.specs.declared.pointer.OrbPointer.{OrbPointer}
-use Rattle.orb_layout.specs.declared.pointer.OrbPointer.TheVariants.{At, Null}
-use Rattle.agent_laws.specs.Along.Along.{Along, Knows, KnowsAhead, Progress, ReadsAhead}
-use Rattle.agent_laws.specs.Along.Requests.{ahead_ask, ahead_under, main_ask, main_under}
-use Rattle.agent_laws.specs.Along.Steps.{Brings, number_behind}
-use Rattle.orb_layout.specs.Replies.{Answer}
-use Rattle.sbp_journal.specs.Addresses.{Access}
-use Rattle.sbp_journal.specs.Run.{Moment}
-use Rattle.sbp_journal.specs.declared.event.Cmd.{Cmd}
-use Rattle.sbp_laws.specs.Lists.{command_at, linked, slot_at}
-use Rattle.sbp_world.specs.Agents.AskedRuns.{IsAccessFor, read_access}
 use Rattle.sbp_world.proofs.Lists.Brought.{Comes, ahead_brought, follows, has_a_table, list, main_brought, main_number, number_of, read_at}
-use Rattle.sbp_world.specs.Lists.SentReads.{slot_in}
 use Rattle.sbp_world.proofs.Lists.Slots.{IsFilled, data_window, orb_slot, table_slot}
 
 writes_not : (access : Access) → access.is_write ≡ true → access.is_write ≡ false → ⊥

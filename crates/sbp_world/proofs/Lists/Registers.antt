@@ -1,60 +1,23 @@
 -- A pointer and a doorbell: a list is taken from its first ORB on, and the agent that is at the end of a list stays along it.
-use Rattle.std.proofs.Common.{◌≡◌, ◌∙◌, refl, sym, ap, subst, ◌<◌, ℕ, zero, suc, Bool, true, false, List, [], ◌∷◌, length, Option, Some, None, Result, Ok, Err, arith}
-use Rattle.std.specs.Prelude.{slice_index_or, slice_set}
-use Rattle.std.proofs.lemmas.Grind.{get_or-set_at}
-use Rattle.std.proofs.lemmas.List.{get_or-set_other}
-use Rattle.std.proofs.Math.ListN.{length-set}
-use Rattle.async_packet.specs.Packet.{Packet}
+use Rattle.sbp_world.proofs.Words.Std.{◌≡◌, ◌∙◌, refl, sym, ap, subst, ◌<◌, ℕ, zero, suc, Bool, true, false, List, [], ◌∷◌, length, Option, Some, None, Result, Ok, Err, arith, slice_index_or, slice_set, get_or-set_at, get_or-set_other, length-set}
+use Rattle.sbp_world.proofs.Words.Wire.{Packet, Layer, Holder, holder_at, opened_by, opened_step, or_nobody, place_in, list_in, orb_in, Note, empty_outbox, Moment, said}
+use Rattle.sbp_world.proofs.Words.Target.{Login, Phase, PointRefusal, Machine, aligned, named, present_of, doorbell_step, fetch_step, point_in, point_step, Along, AtEnd, Knows, at_start, PointerBrings, complete, Desk, Purpose, noted, pointed_desk, NodeState, Scene, desk_at, login_at, scene, with_agent, with_desk, answer_step, with_side, answered, asked_in, point, pointed_by, rcode_of, ring, rung_by, orb_of, tell_step}
+use Rattle.sbp_world.proofs.Words.Initiator.{start, Ask, Nothing, OrbPointer}
+use Rattle.sbp_world.proofs.Words.Laws.{address_of, linked, slot_at, is_cut, appends, ends, lists, runs}
+use Rattle.sbp_world.proofs.Words.World.{holder, ticket_at, ticket_of, told, told_all, WorldState, has_list, UnrunLaw, orbs, IsPointed, machine_at, WasHad}
 use Rattle.bus_memory.specs.declared.window.Window.TheVariants as windows
-use Rattle.bus_memory.specs.Windows.{start}
-use Rattle.label_table.specs.Layer.{Layer}
-use Rattle.login_table.specs.declared.login.Login.{Login}
-use Rattle.orb_layout.specs.declared.ask.Ask.{Ask}
-use Rattle.orb_layout.specs.declared.ask.Ask.TheVariants.{Nothing}
-use Rattle.orb_layout.specs.declared.pointer.OrbPointer.{OrbPointer}
-use Rattle.command_agent.specs.declared.phase.Phase.{Phase}
-use Rattle.command_agent.specs.declared.step.PointRefusal.{PointRefusal}
-use Rattle.command_agent.specs.Machine.{Machine, aligned, named, present_of}
 use Rattle.command_agent.specs.Steps as steps
-use Rattle.command_agent.specs.Steps.{doorbell_step, fetch_step, point_in, point_step}
-use Rattle.agent_laws.specs.Along.Along.{Along, AtEnd, Knows, at_start}
-use Rattle.agent_laws.specs.Along.Steps.{PointerBrings}
 use Rattle.agent_laws.proofs.Along.Writes.{keeps_along}
-use Rattle.sbp_bus.specs.declared.places.Holder.{Holder}
-use Rattle.sbp_bus.specs.Places.{holder_at, opened_by, opened_step, or_nobody, place_in}
-use Rattle.sbp_bus.specs.Telling.{list_in, orb_in}
-use Rattle.sbp_journal.specs.declared.note.Note.{Note}
 use Rattle.sbp_journal.specs.declared.side.Side.TheVariants as sides
-use Rattle.sbp_journal.specs.Outgoings.{empty_outbox}
-use Rattle.sbp_journal.specs.Run.{Moment, said}
-use Rattle.sbp_laws.specs.CarriedBytes.{address_of}
-use Rattle.sbp_laws.specs.Lists.{linked, slot_at}
-use Rattle.sbp_laws.specs.OrderLaw.{is_cut}
-use Rattle.sbp_laws.specs.Terms.{appends, ends, lists, runs}
-use Rattle.target_base.specs.Addresses.{complete}
-use Rattle.sbp_target.specs.declared.desk.Desk.{Desk}
-use Rattle.sbp_target.specs.declared.purpose.Purpose.{Purpose}
-use Rattle.sbp_target.specs.Agents.{noted}
-use Rattle.sbp_target.specs.Desks.{pointed_desk}
-use Rattle.sbp_target.specs.Nodes.{NodeState, Scene, desk_at, login_at, scene, with_agent, with_desk}
-use Rattle.sbp_target.specs.Sending.{answer_step, with_side}
-use Rattle.sbp_target.specs.Serving.{answered, asked_at, asked_in, point, pointed_by, rcode_of, ring, rung_by}
-use Rattle.sbp_target.specs.Telling.{orb_of, tell_step}
-use Rattle.sbp_world.specs.Telling.{holder, ticket_at, ticket_of, told, told_all}
-use Rattle.sbp_world.specs.Worlds.{WorldState}
+use Rattle.sbp_target.specs.Serving.{asked_at}
 use Rattle.sbp_world.proofs.Agents.Management.Still.{hist}
-use Rattle.sbp_world.specs.Agents.Alike.{has_list}
-use Rattle.sbp_world.specs.Lists.Running.{UnrunLaw}
 use Rattle.sbp_world.proofs.Agents.AskedLate.{quiet_follow}
-use Rattle.sbp_world.specs.Lists.Lists.{orbs}
-use Rattle.sbp_world.specs.Lists.Needs.{IsPointed, machine_at}
 use Rattle.sbp_world.proofs.Lists.Cuts.{Cutting, answers, desk_more}
 use Rattle.sbp_world.proofs.Lists.Follows.{Mid, alike, asks_mid}
 use Rattle.sbp_world.proofs.Lists.SameAgents.{AreSame, set_here, set_there}
 use Rattle.sbp_world.proofs.Lists.Kept.{IsLess, Kept, same}
 use Rattle.sbp_world.proofs.Lists.Lists.{laid}
 use Rattle.sbp_world.proofs.Lists.Looks.{Looks, kept_looks, opened_looks}
-use Rattle.sbp_world.specs.Lists.CutLists.{WasHad}
 use Rattle.sbp_world.proofs.Lists.Told.{AgentOn, Apart, Behind, ListAt, Own}
 use Rattle.sbp_world.proofs.Lists.Turns.{Acting, First, Lists, Ready, acting, apart, begun, finish, first_goes, first_listed, v}
 use Rattle.sbp_world.proofs.Lists.Passing.{GoesOn}

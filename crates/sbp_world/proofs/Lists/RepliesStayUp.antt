@@ -1,34 +1,14 @@
 -- No reply to an agent, and no loss, puts it into RESET: from any other state it goes on to another one (NCITS 325-1998, AGENT_STATE).
-use Rattle.std.proofs.Common.{◌≡◌, refl, ◌==◌, ◌+◌, ◌*◌, ◌++◌, not, ℕ, Bool, true, false, cond, List, length, Option, Some, None, Result, Ok, Err}
-use Rattle.command_agent.specs.declared.phase.Phase.{Phase}
+use Rattle.sbp_world.proofs.Words.Std.{◌≡◌, refl, ◌==◌, ◌+◌, ◌*◌, ◌++◌, not, ℕ, Bool, true, false, cond, List, length, Option, Some, None, Result, Ok, Err}
+use Rattle.sbp_world.proofs.Words.Target.{Phase, ReadAhead, AgentStep, Move, Which, Ahead, Main, death_by, reads_table, verdict, Machine, chunk_of, is_ahead, plan_of, state_in, is_reset, quiet, told_or, Need, Outcome, Told, need_of, PlainDisk}
+use Rattle.sbp_world.proofs.Words.Initiator.{FailCause, OrbPointer, At, Null, StatusKind, Read, pointer_at, Answer, payload_of, write_failure, PageFault, elements_of, first_fault}
 use Rattle.command_agent.specs.declared.phase.Phase.TheVariants as phases
-use Rattle.command_agent.specs.declared.phase.ReadAhead.{ReadAhead}
 use Rattle.command_agent.specs.declared.phase.ReadAhead.TheVariants as aheads
-use Rattle.command_agent.specs.declared.step.AgentStep.{AgentStep}
-use Rattle.command_agent.specs.declared.step.Move.{Move}
 use Rattle.command_agent.specs.declared.step.Move.TheVariants as moves
-use Rattle.command_agent.specs.declared.step.Which.{Which}
-use Rattle.command_agent.specs.declared.step.Which.TheVariants.{Ahead, Main}
-use Rattle.command_agent.specs.Checks.{death_by, reads_table, verdict}
-use Rattle.command_agent.specs.Machine.{Machine, chunk_of, is_ahead, plan_of, state_in}
 use Rattle.command_agent.specs.Steps as steps
-use Rattle.command_agent.specs.Steps.{is_reset, quiet, told_or}
-use Rattle.orb_layout.specs.declared.ask.FailCause.{FailCause}
-use Rattle.orb_layout.specs.declared.pointer.OrbPointer.{OrbPointer}
-use Rattle.orb_layout.specs.declared.pointer.OrbPointer.TheVariants.{At, Null}
-use Rattle.orb_layout.specs.declared.status.StatusKind.{StatusKind}
 use Rattle.orb_layout.specs.declared.status.StatusKind.TheVariants as kinds
-use Rattle.orb_layout.specs.declared.ask.Ask.TheVariants.{Read}
-use Rattle.orb_layout.specs.Pointers.{pointer_at}
-use Rattle.orb_layout.specs.Replies.{Answer, payload_of, write_failure}
-use Rattle.page_table.specs.declared.fault.PageFault.{PageFault}
-use Rattle.page_table.specs.Elements.{elements_of, first_fault}
-use Rattle.rbc_disk.specs.declared.command.Need.{Need}
 use Rattle.rbc_disk.specs.declared.command.Need.TheVariants as needs
-use Rattle.rbc_disk.specs.declared.command.Outcome.{Outcome}
 use Rattle.rbc_disk.specs.declared.command.Outcome.TheVariants as outcomes
-use Rattle.rbc_disk.specs.Runs.{Told, need_of}
-use Rattle.rbc_disk.specs.Units.{PlainDisk}
 use Rattle.sbp_world.proofs.Lists.OpenCuts.{is_up}
 use Rattle.sbp_world.proofs.Common.{untrue}
 

@@ -1,35 +1,21 @@
 -- The operation of the target and the request that it waits for, over the notes of a turn: they are as they were, unless the turn begins with the answer to that request
 -- or with a write that starts an operation; and the packets of a turn that begins with neither are none of an operation's.
-use Rattle.std.proofs.Common.{arith, ◌≡◌, ◌∙◌, refl, sym, ap, subst, ◌⊎◌, inl, inr, ℕ, zero, suc, ◌<◌, not, nat_eq, Bool, true, false, cond, List, [], ◌∷◌, ◌++◌, map, Option, Some, None}
-use Rattle.std.specs.Prelude.{is_none, position, unwrap_or}
-use Rattle.std.proofs.lemmas.Bool.Decides.{nat_tests}
-use Rattle.mgmt_agent.specs.declared.operation.Operation.{Operation}
+use Rattle.sbp_world.proofs.Words.Std.{arith, ◌≡◌, ◌∙◌, refl, sym, ap, subst, ◌⊎◌, inl, inr, ℕ, zero, suc, ◌<◌, not, nat_eq, Bool, true, false, cond, List, [], ◌∷◌, ◌++◌, map, Option, Some, None, is_none, position, unwrap_or, nat_tests}
+use Rattle.sbp_world.proofs.Words.Wire.{Access, Start, management_agent, no_start, register, rom_start, start_at, start_serves, Moment, asked, said, Part, Sending, part_of, request, response, writing, Terms, terms, Cause, Event, Note, FunctionWord}
+use Rattle.sbp_world.proofs.Words.Target.{Operation, Disk}
+use Rattle.sbp_world.proofs.Words.Initiator.{Ask, offset_at, Expired}
+use Rattle.sbp_world.proofs.Words.Laws.{access_at, access_in_bytes, answer_in, answered_at, id_for, packet_at, sender_in, Decided, Target, got_by, is_serial, is_write_access, key_by, over, replied, request_got, sent_as, sent_for, taken_on, target_at, wants, wants_it, event_of}
+use Rattle.sbp_world.proofs.Words.World.{Office, at_rest, by_managed, by_note, cleared, office_of, placed, placed_by, office_replied, started, started_by, AllOf}
 use Rattle.mgmt_agent.specs.Machine.{Machine}
 use Rattle.mgmt_agent.specs.Machine as manager
-use Rattle.orb_layout.specs.declared.ask.Ask.{Ask}
 use Rattle.orb_layout.specs.declared.ask.Ask.TheVariants as asks
-use Rattle.orb_layout.specs.Pointers.{offset_at}
-use Rattle.orb_layout.specs.Replies.{Expired}
-use Rattle.rbc_disk.specs.Disk.{Disk}
-use Rattle.sbp_journal.specs.Addresses.{Access, Start, management_agent, no_start, register, rom_start, start_at, start_serves}
-use Rattle.sbp_journal.specs.Run.{Moment, asked, said}
-use Rattle.sbp_journal.specs.Transactions.{Part, Sending, no_packet, part_of, request, response, writing}
-use Rattle.sbp_journal.specs.Wire.{Terms, terms}
-use Rattle.sbp_journal.specs.declared.cause.Cause.{Cause}
-use Rattle.sbp_journal.specs.declared.event.Event.{Event}
+use Rattle.sbp_journal.specs.Transactions.{no_packet}
 use Rattle.sbp_journal.specs.declared.event.Event.TheVariants as events
-use Rattle.sbp_journal.specs.declared.note.Note.{Note}
 use Rattle.sbp_journal.specs.declared.note.Note.TheVariants as notes
-use Rattle.sbp_journal.specs.declared.operation.FunctionWord.{FunctionWord}
 use Rattle.sbp_journal.specs.declared.operation.FunctionWord.TheVariants as functions
-use Rattle.sbp_laws.specs.Packets.{access_at, access_in_bytes, answer_in, answered_at, id_for, packet_at, sender_in}
-use Rattle.sbp_laws.specs.Targets.{Decided, Target, got_by, is_serial, is_write_access, key_by, over, replied, request_got, sent_as, sent_for, taken_on, target_at, wants, wants_it}
-use Rattle.sbp_laws.specs.Turns.{event_of}
-use Rattle.sbp_world.specs.Agents.Management.Offices.{Office, at_rest, by_managed, by_note, cleared, office_of, placed, placed_by, replied as office_replied, started, started_by}
 use Rattle.sbp_world.proofs.Agents.Management.Firsts.{got_here, got_there, ignored_office, lapsed_here, lapsed_there, opened_office, other_reply, other_sight, own_reply, request_keeps, rests, served_office, sight_office, tick_office}
 use Rattle.sbp_world.proofs.Agents.Management.Offices.{IsBehind, note_changes, over_keeps, taken_keeps}
 use Rattle.sbp_world.proofs.Sessions.Decisions.{expired_over}
-use Rattle.sbp_world.specs.Lists.Opened.{AllOf}
 use Rattle.sbp_world.proofs.Lists.LiveTold.{is_behind, is_first, is_own_packet}
 use Rattle.sbp_world.proofs.Lists.ManageMoments.{MayHand, TakeFacts}
 use Rattle.sbp_world.proofs.Lists.ManageOffices.{office_at, sent_office}

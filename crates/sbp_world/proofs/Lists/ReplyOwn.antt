@@ -1,35 +1,16 @@
 -- A turn in which the target is not called: while a response waits to be judged, the operation that its initiator has under way ends by nothing but with the session stuck.
-use Rattle.std.proofs.Common.{arith, ◌≡◌, ◌∙◌, refl, sym, ap, subst, ◌⊎◌, inl, inr, ℕ, suc, ◌<◌, Bool, true, false, List, ◌++◌, map, length, Option, Some, None}
-use Rattle.bus_transactions.specs.Packets.{SerialsCount}
-use Rattle.bus_transactions.specs.Wire.{as_sending}
+use Rattle.sbp_world.proofs.Words.Std.{arith, ◌≡◌, ◌∙◌, refl, sym, ap, subst, ◌⊎◌, inl, inr, ℕ, suc, ◌<◌, Bool, true, false, List, ◌++◌, map, length, Option, Some, None}
+use Rattle.sbp_world.proofs.Words.Wire.{SerialsCount, as_sending, Sent, found_sent, topology_at, empty_outbox, Moment, said, terms}
+use Rattle.sbp_world.proofs.Words.Target.{Managed, Disk}
+use Rattle.sbp_world.proofs.Words.Initiator.{Running, InitiatorState, receive_step, is_stuck_seat}
+use Rattle.sbp_world.proofs.Words.Laws.{Underway, host_at, is_management, id_for, target_at}
+use Rattle.sbp_world.proofs.Words.World.{Core, work_in, more_deliveries, Scene, WorldState, initiator_at, AreAsked, IsManaged, AreReplied, IsReplied, IsReplying, is_responding, IsTaken}
 use Rattle.sbp_world.proofs.Hosts.Hosted.{Cored, expires_fit, hears_fit}
-use Rattle.sbp_world.specs.Hosts.Core.{Core, work_in}
-use Rattle.sbp_world.specs.Hosts.Runs.{more_deliveries}
-use Rattle.mgmt_agent.specs.declared.operation.Operation.{Operation as Managed}
 use Rattle.mgmt_agent.specs.Machine.{Machine}
-use Rattle.packet_store.specs.declared.sent.Sent.{Sent}
-use Rattle.packet_store.specs.Kept.{found_sent}
-use Rattle.rbc_disk.specs.Disk.{Disk}
-use Rattle.sbp_bus.specs.Generations.{topology_at}
-use Rattle.sbp_initiator.specs.declared.purpose.Running.{Running}
-use Rattle.sbp_initiator.specs.declared.state.InitiatorState.{InitiatorState}
-use Rattle.sbp_initiator.specs.Receiving.{receive_step}
-use Rattle.sbp_journal.specs.Outgoings.{empty_outbox}
-use Rattle.sbp_journal.specs.Run.{Moment, said}
-use Rattle.sbp_journal.specs.Wire.{terms}
-use Rattle.sbp_laws.specs.Hosts.{Underway, host_at, is_management}
-use Rattle.sbp_laws.specs.Packets.{id_for}
-use Rattle.sbp_laws.specs.Targets.{target_at}
-use Rattle.sbp_session.specs.Seats.{is_stuck_seat}
-use Rattle.sbp_world.specs.Worlds.{Scene, WorldState, initiator_at}
 use Rattle.sbp_world.proofs.Wire.Starts.{laws_of}
 use Rattle.sbp_world.proofs.Agents.Management.Holding.{Holding, known_id, was_sent}
 use Rattle.sbp_world.proofs.Agents.Management.Still.{hist}
 use Rattle.sbp_world.proofs.Sessions.Turns.{wire_generation}
-use Rattle.sbp_world.specs.Lists.Contents.{AreAsked}
-use Rattle.sbp_world.specs.Lists.Managing.{IsManaged}
-use Rattle.sbp_world.specs.Lists.Responding.{AreReplied, IsReplied, IsReplying, is_responding}
-use Rattle.sbp_world.specs.Lists.Tellings.{IsTaken}
 use Rattle.sbp_world.proofs.Lists.Courses.{Goes, by_delivery, by_end, by_line, by_start}
 use Rattle.sbp_world.proofs.Lists.Judging.{counts_at}
 use Rattle.sbp_world.proofs.Lists.LiveActs.{Acted, act_acts, begins, idle, moves}

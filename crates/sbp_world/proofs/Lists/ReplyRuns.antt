@@ -1,28 +1,15 @@
 -- A response of the target that waits to be judged by an initiator, at each place of a run: where the initiator injected no packets, and each login that it was done with
 -- was granted an agent of a place, it has given up, or the operation of the target for it waits for the answer to this response.
-use Rattle.std.proofs.Common.{◌≡◌, ◌∙◌, refl, sym, ap, subst, ◌⊎◌, inl, inr, ℕ, ◌<◌, Bool, true, false, List, [], ◌∷◌, ◌++◌, map, length, Some}
+use Rattle.sbp_world.proofs.Words.Std.{◌≡◌, ◌∙◌, refl, sym, ap, subst, ◌⊎◌, inl, inr, ℕ, ◌<◌, Bool, true, false, List, [], ◌∷◌, ◌++◌, map, length, Some}
+use Rattle.sbp_world.proofs.Words.Wire.{Moment, said, Note}
+use Rattle.sbp_world.proofs.Words.Target.{Operation, Disk}
+use Rattle.sbp_world.proofs.Words.Initiator.{InitiatorState, is_stuck_seat}
+use Rattle.sbp_world.proofs.Words.Laws.{target_at, EachMoment}
+use Rattle.sbp_world.proofs.Words.World.{moments_behind, ready_logins, Run, beginning, Scene, WorldState, initiator_at, AreAsked, HasGivenUp, IsManaged, IsCalm, ArePlacedOps, BasedAt, AreReplied}
 use Rattle.sbp_world.proofs.Hosts.Hosted.{Cored}
-use Rattle.mgmt_agent.specs.declared.operation.Operation.{Operation}
 use Rattle.mgmt_agent.specs.Machine.{Machine}
-use Rattle.rbc_disk.specs.Disk.{Disk}
-use Rattle.sbp_initiator.specs.declared.state.InitiatorState.{InitiatorState}
-use Rattle.sbp_journal.specs.Run.{Moment, said}
-use Rattle.sbp_journal.specs.declared.note.Note.{Note}
-use Rattle.sbp_laws.specs.Targets.{target_at}
-use Rattle.sbp_laws.specs.Turns.{EachMoment}
-use Rattle.sbp_session.specs.Seats.{is_stuck_seat}
-use Rattle.sbp_world.specs.Histories.{moments_behind}
-use Rattle.sbp_world.specs.Making.{ready_logins}
-use Rattle.sbp_world.specs.Runs.{Run, beginning}
-use Rattle.sbp_world.specs.Worlds.{Scene, WorldState, initiator_at}
 use Rattle.sbp_world.proofs.Agents.Management.Holding.{Holding}
 use Rattle.sbp_world.proofs.Agents.Management.Still.{hist}
-use Rattle.sbp_world.specs.Lists.Contents.{AreAsked}
-use Rattle.sbp_world.specs.Lists.Live.{HasGivenUp}
-use Rattle.sbp_world.specs.Lists.Managing.{IsManaged}
-use Rattle.sbp_world.specs.Lists.Needs.{IsCalm}
-use Rattle.sbp_world.specs.Lists.Placings.{ArePlacedOps, BasedAt}
-use Rattle.sbp_world.specs.Lists.Responding.{AreReplied}
 use Rattle.sbp_world.proofs.Lists.Courses.{EveryPlace, Goes, Keeps, at_between, at_lines}
 use Rattle.sbp_world.proofs.Lists.Judging.{goes_next, grown}
 use Rattle.sbp_world.proofs.Lists.LiveGiven.{LawsAt}

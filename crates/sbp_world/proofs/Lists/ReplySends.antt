@@ -1,21 +1,13 @@
 -- A response of the target that waits as its packets leave did so before, or the operation that waits for the answer sent it.
-use Rattle.std.proofs.Common.{arith, ◌≡◌, ◌∙◌, refl, sym, ap, subst, ◌⊎◌, inl, inr, ℕ, zero, suc, ◌&&◌, not, nat_eq, Bool, true, false, cond, List, [], ◌∷◌, ◌++◌, map, Option, Some}
-use Rattle.std.proofs.lemmas.Bool.Decides.{nat_tests}
-use Rattle.mgmt_agent.specs.declared.operation.Operation.{Operation}
+use Rattle.sbp_world.proofs.Words.Std.{arith, ◌≡◌, ◌∙◌, refl, sym, ap, subst, ◌⊎◌, inl, inr, ℕ, zero, suc, ◌&&◌, not, nat_eq, Bool, true, false, cond, List, [], ◌∷◌, ◌++◌, map, Option, Some, nat_tests}
+use Rattle.sbp_world.proofs.Words.Wire.{Moment, said, Sending, terms, Note}
+use Rattle.sbp_world.proofs.Words.Target.{Operation, Disk}
+use Rattle.sbp_world.proofs.Words.Initiator.{Ask}
+use Rattle.sbp_world.proofs.Words.Laws.{is_nothing, is_serial, target_at}
+use Rattle.sbp_world.proofs.Words.World.{Office, is_its_packet, managed_for, operation_if, AllOf, IsReplying, is_responding}
 use Rattle.mgmt_agent.specs.Machine.{Machine}
-use Rattle.orb_layout.specs.declared.ask.Ask.{Ask}
 use Rattle.orb_layout.specs.declared.ask.Ask.TheVariants as asks
-use Rattle.rbc_disk.specs.Disk.{Disk}
-use Rattle.sbp_journal.specs.Run.{Moment, said}
-use Rattle.sbp_journal.specs.Transactions.{Sending}
-use Rattle.sbp_journal.specs.Wire.{terms}
-use Rattle.sbp_journal.specs.declared.note.Note.{Note}
 use Rattle.sbp_journal.specs.declared.note.Note.TheVariants as notes
-use Rattle.sbp_laws.specs.Targets.{is_nothing, is_serial, target_at}
-use Rattle.sbp_world.specs.Agents.Management.Offices.{Office}
-use Rattle.sbp_world.specs.Lists.ManagedFor.{is_its_packet, managed_for, operation_if}
-use Rattle.sbp_world.specs.Lists.Opened.{AllOf}
-use Rattle.sbp_world.specs.Lists.Responding.{IsReplying, is_responding}
 use Rattle.sbp_world.proofs.Lists.LiveTold.{is_own_packet}
 use Rattle.sbp_world.proofs.Lists.ManageMoments.{Hands, SendFacts}
 use Rattle.sbp_world.proofs.Lists.ManageOffices.{sent_office}

@@ -1,32 +1,18 @@
 -- A turn of the target: a response that waits was there before, and the operation that waits for its answer is as it was; or the operation sent it now.
-use Rattle.std.proofs.Common.{arith, ◌≡◌, ◌∙◌, sym, ap, subst, ◌⊎◌, inl, inr, ℕ, suc, ◌<◌, Bool, true, List, [], ◌∷◌, ◌++◌, map, Option, Some}
-use Rattle.std.proofs.lemmas.Option.{same_Some}
-use Rattle.bus_transactions.specs.Packets.{SerialsCount}
+use Rattle.sbp_world.proofs.Words.Std.{arith, ◌≡◌, ◌∙◌, sym, ap, subst, ◌⊎◌, inl, inr, ℕ, suc, ◌<◌, Bool, true, List, [], ◌∷◌, ◌++◌, map, Option, Some, same_Some}
+use Rattle.sbp_world.proofs.Words.Wire.{SerialsCount, Moment, said, Sending, part_of, request, writing, terms, Note}
+use Rattle.sbp_world.proofs.Words.Target.{Operation, Disk}
+use Rattle.sbp_world.proofs.Words.Laws.{id_for, receiver_in, target_at}
+use Rattle.sbp_world.proofs.Words.World.{more_deliveries, Scene, WorldState, initiator_at, HasGivenUp, IsHandling, IsManaged, IsTelling, AllOf, IsInAPlace, AreReplied, IsReplied, IsReplying, is_responding, IsTaken}
 use Rattle.bus_transactions.proofs.Reaches.{goes_on}
 use Rattle.sbp_world.proofs.Hosts.Hosted.{Cored}
 use Rattle.sbp_world.proofs.Hosts.Remaining.{serials_behind}
-use Rattle.sbp_world.specs.Hosts.Runs.{more_deliveries}
-use Rattle.mgmt_agent.specs.declared.operation.Operation.{Operation}
 use Rattle.mgmt_agent.specs.declared.operation.Phase.{Phase}
 use Rattle.mgmt_agent.specs.declared.operation.Phase.TheVariants as phases
 use Rattle.mgmt_agent.specs.Machine.{Machine}
-use Rattle.rbc_disk.specs.Disk.{Disk}
-use Rattle.sbp_journal.specs.Run.{Moment, said}
-use Rattle.sbp_journal.specs.Transactions.{Sending, part_of, request, writing}
-use Rattle.sbp_journal.specs.Wire.{terms}
-use Rattle.sbp_journal.specs.declared.note.Note.{Note}
 use Rattle.sbp_journal.specs.declared.note.Note.TheVariants as notes
-use Rattle.sbp_laws.specs.Packets.{id_for, receiver_in}
-use Rattle.sbp_laws.specs.Targets.{target_at}
-use Rattle.sbp_world.specs.Worlds.{Scene, WorldState, initiator_at}
 use Rattle.sbp_world.proofs.Agents.Management.Holding.{Holding}
 use Rattle.sbp_world.proofs.Agents.Management.Still.{hist}
-use Rattle.sbp_world.specs.Lists.Live.{HasGivenUp}
-use Rattle.sbp_world.specs.Lists.Managing.{IsHandling, IsManaged, IsTelling}
-use Rattle.sbp_world.specs.Lists.Opened.{AllOf}
-use Rattle.sbp_world.specs.Lists.Placings.{IsInAPlace}
-use Rattle.sbp_world.specs.Lists.Responding.{AreReplied, IsReplied, IsReplying, is_responding}
-use Rattle.sbp_world.specs.Lists.Tellings.{IsTaken}
 use Rattle.sbp_world.proofs.Lists.Courses.{Goes, by_delivery, by_end, by_line, by_start}
 use Rattle.sbp_world.proofs.Lists.Judging.{counts_at}
 use Rattle.sbp_world.proofs.Lists.LiveCalled.{Begins, not_begun, taken_on}

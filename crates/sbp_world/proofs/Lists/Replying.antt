@@ -1,20 +1,10 @@
 -- A response of the target that waits to be judged by an initiator: what the notes of a turn leave of it, and of the target's operation that waits for the answer.
-use Rattle.std.proofs.Common.{arith, ◌≡◌, ◌∙◌, refl, sym, ap, ℕ, zero, suc, ◌≤◌, nat_eq, Bool, true, false, cond, List, [], ◌∷◌, ◌++◌, map, Option, Some}
-use Rattle.std.proofs.lemmas.Bool.Decides.{nat_tests}
-use Rattle.bus_transactions.specs.Packets.{SerialsCount}
-use Rattle.mgmt_agent.specs.declared.operation.Operation.{Operation}
-use Rattle.packet_store.specs.declared.sent.Kept.{Kept}
-use Rattle.rbc_disk.specs.Disk.{Disk}
-use Rattle.sbp_journal.specs.Run.{Moment, asked, said}
-use Rattle.sbp_journal.specs.Transactions.{Sending}
-use Rattle.sbp_journal.specs.Wire.{terms}
-use Rattle.sbp_journal.specs.declared.event.Event.{Event}
-use Rattle.sbp_journal.specs.declared.note.Note.{Note}
+use Rattle.sbp_world.proofs.Words.Std.{arith, ◌≡◌, ◌∙◌, refl, sym, ap, ℕ, zero, suc, ◌≤◌, nat_eq, Bool, true, false, cond, List, [], ◌∷◌, ◌++◌, map, Option, Some, nat_tests}
+use Rattle.sbp_world.proofs.Words.Wire.{SerialsCount, Kept, Moment, asked, said, Sending, terms, Event, Note}
+use Rattle.sbp_world.proofs.Words.Target.{Operation, Disk}
+use Rattle.sbp_world.proofs.Words.World.{managed_for, AllOf, IsReplying}
 use Rattle.sbp_journal.specs.declared.note.Note.TheVariants as notes
 use Rattle.sbp_world.proofs.Hosts.Remaining.{remains, serials_behind}
-use Rattle.sbp_world.specs.Lists.ManagedFor.{managed_for}
-use Rattle.sbp_world.specs.Lists.Opened.{AllOf}
-use Rattle.sbp_world.specs.Lists.Responding.{IsReplying}
 use Rattle.sbp_world.proofs.Lists.LiveTold.{AllAway, IsAway, IsFirst, is_behind, is_first}
 use Rattle.sbp_world.proofs.Lists.ManageMoments.{LineFacts}
 use Rattle.sbp_world.proofs.Lists.ManageSends.{opened_terms, sent_terms}

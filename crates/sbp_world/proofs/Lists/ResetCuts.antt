@@ -1,24 +1,12 @@
 -- An agent that has a list and is put to RESET by a call of the target has its list cut in that turn: no step puts it there.
-use Rattle.std.proofs.Common.{arith, ◌≡◌, ◌∙◌, refl, sym, ap, subst, inl, inr, ◌⊎◌, ◌<◌, ℕ, nat_eq, Bool, true, false, List, Some}
-use Rattle.std.proofs.lemmas.Bool.Decides.{nat_tests}
-use Rattle.command_agent.specs.Machine.{Machine, state_in}
-use Rattle.command_agent.specs.Steps.{is_reset}
-use Rattle.command_agent.specs.declared.phase.Phase.{Phase}
-use Rattle.label_table.specs.Layer.{Layer}
+use Rattle.sbp_world.proofs.Words.Std.{arith, ◌≡◌, ◌∙◌, refl, sym, ap, subst, inl, inr, ◌⊎◌, ◌<◌, ℕ, nat_eq, Bool, true, false, List, Some, nat_tests}
+use Rattle.sbp_world.proofs.Words.Wire.{Layer, Holder, holder_at, OutboxState, Moment}
+use Rattle.sbp_world.proofs.Words.Target.{Machine, state_in, is_reset, Phase, Purpose, NodeState, desk_at, scene}
+use Rattle.sbp_world.proofs.Words.Laws.{is_cut}
+use Rattle.sbp_world.proofs.Words.World.{handed_out, holder, told_all, WorldState, initiator_in, machine_at}
 use Rattle.command_agent.specs.declared.phase.Phase.TheVariants as phases
-use Rattle.sbp_bus.specs.declared.places.Holder.{Holder}
-use Rattle.sbp_bus.specs.Places.{holder_at}
-use Rattle.sbp_journal.specs.Outgoings.{OutboxState}
-use Rattle.sbp_journal.specs.Run.{Moment}
-use Rattle.sbp_laws.specs.OrderLaw.{is_cut}
-use Rattle.sbp_target.specs.declared.purpose.Purpose.{Purpose}
 use Rattle.sbp_target.proofs.Histories.Calling.{Good}
-use Rattle.sbp_target.specs.Nodes.{NodeState, desk_at, scene}
-use Rattle.sbp_world.specs.Handing.{handed_out}
-use Rattle.sbp_world.specs.Telling.{holder, told_all}
-use Rattle.sbp_world.specs.Worlds.{WorldState}
 use Rattle.sbp_world.proofs.Agents.Management.Still.{hist}
-use Rattle.sbp_world.specs.Lists.Needs.{initiator_in, machine_at}
 use Rattle.sbp_world.proofs.Lists.Adds.{Stays, all_stay}
 use Rattle.sbp_world.proofs.Lists.BusyCuts.{Cutting, WasCut}
 use Rattle.sbp_world.proofs.Lists.Busy.{is_busy}

@@ -1,23 +1,14 @@
 -- Moment by moment an agent of the terms that is in RESET stays so, but where the target gets a packet: a write of ORB_POINTER alone takes it out of RESET.
-use Rattle.std.proofs.Common.{◌≡◌, ◌∙◌, refl, ap, ℕ, ◌+◌, Bool, true, false, cond, List, [], ◌∷◌, ◌++◌, Option, Some}
+use Rattle.sbp_world.proofs.Words.Std.{◌≡◌, ◌∙◌, refl, ap, ℕ, ◌+◌, Bool, true, false, cond, List, [], ◌∷◌, ◌++◌, Option, Some}
+use Rattle.sbp_world.proofs.Words.Wire.{Moment, asked, said, Note}
+use Rattle.sbp_world.proofs.Words.Target.{Phase, Which, Ahead, Main, Machine, Disk, Told, PlainDisk}
+use Rattle.sbp_world.proofs.Words.Initiator.{Nothing, FailCause, Answer}
+use Rattle.sbp_world.proofs.Words.Laws.{Agent, Reply, agent_at, agent_over, ahead_lost, closed, is_nothing, known_at, main_lost, moved, over, sends_of, target_at, wants}
+use Rattle.sbp_world.proofs.Words.World.{IsCut}
 use Rattle.command_agent.specs.declared.phase.Phase.TheVariants as phases
-use Rattle.command_agent.specs.declared.phase.Phase.{Phase}
-use Rattle.command_agent.specs.declared.step.Which.{Which}
-use Rattle.command_agent.specs.declared.step.Which.TheVariants.{Ahead, Main}
-use Rattle.command_agent.specs.Machine.{Machine}
 use Rattle.command_agent.specs.Steps as steps
-use Rattle.orb_layout.specs.declared.ask.Ask.TheVariants.{Nothing}
-use Rattle.orb_layout.specs.declared.ask.FailCause.{FailCause}
 use Rattle.orb_layout.specs.declared.ask.FailCause.TheVariants as causes
-use Rattle.orb_layout.specs.Replies.{Answer}
-use Rattle.rbc_disk.specs.Disk.{Disk}
-use Rattle.rbc_disk.specs.Runs.{Told}
-use Rattle.rbc_disk.specs.Units.{PlainDisk}
-use Rattle.sbp_journal.specs.Run.{Moment, asked, said}
-use Rattle.sbp_journal.specs.declared.note.Note.{Note}
 use Rattle.sbp_journal.specs.declared.note.Note.TheVariants as notes
-use Rattle.sbp_laws.specs.Targets.{Agent, Reply, agent_at, agent_over, ahead_lost, closed, is_nothing, known_at, main_lost, moved, over, sends_of, target_at, wants}
-use Rattle.sbp_world.specs.Lists.LetsGo.{IsCut}
 use Rattle.sbp_world.proofs.Lists.AgentGoes.{AreGoing, IsNoGot, ends_turn, note_goes}
 use Rattle.sbp_world.proofs.Lists.MainSteps.{lost_quiet, read_quiet}
 use Rattle.sbp_world.proofs.Lists.MainStays.{abort_phase, reset_phase}

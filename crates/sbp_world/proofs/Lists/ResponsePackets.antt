@@ -1,28 +1,17 @@
 -- The response that the target's management waits to have written goes where the ORB in the place of its initiator's operation names, and is what the management has
 -- to write.
-use Rattle.std.proofs.Common.{arith, ◌≡◌, ◌∙◌, refl, sym, ap, subst, ℕ, zero, ◌≤◌, nat_le, Bool, true, false, cond, List, ◌∷◌, ◌++◌, length, Option, Some, None}
-use Rattle.std.proofs.lemmas.Option.{none-some, same_Some}
-use Rattle.async_packet.specs.Fields.{largest}
-use Rattle.bus_transactions.specs.Packets.{SerialsCount}
+use Rattle.sbp_world.proofs.Words.Std.{arith, ◌≡◌, ◌∙◌, refl, sym, ap, subst, ℕ, zero, ◌≤◌, nat_le, Bool, true, false, cond, List, ◌∷◌, ◌++◌, length, Option, Some, None, none-some, same_Some}
+use Rattle.sbp_world.proofs.Words.Wire.{largest, SerialsCount, Body, block_write, Moment, said, terms}
+use Rattle.sbp_world.proofs.Words.Target.{Operation, Disk, manager_body}
+use Rattle.sbp_world.proofs.Words.Initiator.{Ask, ManagementOrb}
+use Rattle.sbp_world.proofs.Words.Laws.{access_at, Decided, is_nothing, target_at}
+use Rattle.sbp_world.proofs.Words.World.{write_access, HasIn, HasOrb, IsOn, last_read, AreAsked, WasAsked, access_for}
 use Rattle.sbp_world.proofs.Hosts.SentMoments.{count_now, serials_from}
-use Rattle.label_table.specs.Bodies.{Body, block_write}
-use Rattle.mgmt_agent.specs.declared.operation.Operation.{Operation}
 use Rattle.mgmt_agent.specs.declared.operation.Phase.{Phase}
 use Rattle.mgmt_agent.specs.declared.operation.Phase.TheVariants as phases
 use Rattle.mgmt_agent.specs.Machine.{Machine}
-use Rattle.orb_layout.specs.declared.ask.Ask.{Ask}
 use Rattle.orb_layout.specs.declared.ask.Ask.TheVariants as asks
-use Rattle.orb_layout.specs.declared.management.ManagementOrb.{ManagementOrb}
-use Rattle.rbc_disk.specs.Disk.{Disk}
 use Rattle.sbp_journal.specs.declared.note.Note.TheVariants as notes
-use Rattle.sbp_journal.specs.Run.{Moment, said}
-use Rattle.sbp_journal.specs.Wire.{terms}
-use Rattle.sbp_laws.specs.Packets.{access_at}
-use Rattle.sbp_laws.specs.Targets.{Decided, is_nothing, target_at}
-use Rattle.sbp_target.specs.Management.{manager_body}
-use Rattle.sbp_world.specs.Agents.AskedRuns.{write_access}
-use Rattle.sbp_world.specs.Lists.CarriedOrbs.{HasIn, HasOrb, IsOn, last_read}
-use Rattle.sbp_world.specs.Lists.Contents.{AreAsked, WasAsked, access_for}
 use Rattle.sbp_world.proofs.Lists.ContentManages.{IsSoBefore, SameDecided, bound, sent_back, so_before}
 use Rattle.sbp_world.proofs.Lists.OrbsCarried.{carried_orbs_law}
 use Rattle.sbp_world.proofs.Lists.OrbsRead.{access_there}

@@ -1,51 +1,18 @@
 -- In every run a ring of an initiator writes at ORB_POINTER of the agent of the login that its host has.
-use Rattle.std.proofs.Common.{◌≡◌, ◌∙◌, inl, inr, ◌⊎◌, refl, sym, ap, subst, ℕ, zero, suc, ◌<◌, nat_eq, Bool, true, false, cond, List, [], ◌∷◌, ◌++◌, Option, Some, None}
+use Rattle.sbp_world.proofs.Words.Std.{◌≡◌, ◌∙◌, inl, inr, ◌⊎◌, refl, sym, ap, subst, ℕ, zero, suc, ◌<◌, nat_eq, Bool, true, false, cond, List, [], ◌∷◌, ◌++◌, Option, Some, None}
+use Rattle.sbp_world.proofs.Words.Wire.{Asked, header_to, request_with, Layer, judged_note, Access, access_of, OutboxState, empty_outbox, Moment, asked, said, Judged, Action, Note, Outgoing, Side}
+use Rattle.sbp_world.proofs.Words.Initiator.{start, behind_by, LoginResponse, PresentList, ListState, high_lists, low_lists, list_number, TicketParts, act_step, asked_as, demand_of, demanded_as, done_step, facts_with, first_in, judged_as, link_as, link_step, login_id, low_as, low_step, put_as, put_step, register_of, ring_demand, ring_for, put_lists, Demand, Purpose, InitiatorState, Turn, new_state, expire_step, receive_step, refusal, rings, see_step, is_unwritten, wanted_body, carried, response_in, Seat}
+use Rattle.sbp_world.proofs.Words.Laws.{Host, host_at, list_begins, access_in_bytes, EachMoment, event_of}
+use Rattle.sbp_world.proofs.Words.World.{behind, GotBlocks, IsAtLogin, RingsAt, RingsLaw}
 use Rattle.bus_memory.specs.declared.window.Window.TheVariants as windows
-use Rattle.bus_memory.specs.Windows.{start}
-use Rattle.initiator_base.specs.Places.{behind_by}
-use Rattle.label_table.specs.declared.judgement.Asked.{Asked}
-use Rattle.label_table.specs.Bodies.{header_to, request_with}
-use Rattle.label_table.specs.Layer.{Layer}
-use Rattle.orb_layout.specs.declared.login.LoginResponse.{LoginResponse}
-use Rattle.orb_list.specs.declared.list.PresentList.{PresentList}
-use Rattle.orb_list.specs.Lists.{ListState, high_lists, low_lists}
-use Rattle.orb_list.specs.Table.{list_number}
-use Rattle.orb_list.specs.Tickets.{TicketParts}
-use Rattle.sbp_bus.specs.Packets.{judged_note}
-use Rattle.sbp_initiator.specs.Acting.{act_step, asked_as, demand_of, demanded_as, done_step, facts_with, first_in, judged_as, link_as, link_step, login_id, low_as, low_step, put_as, put_step, register_of, ring_demand, ring_for}
-use Rattle.sbp_initiator.specs.Commands.{put_lists}
-use Rattle.sbp_initiator.specs.declared.purpose.Demand.{Demand}
-use Rattle.sbp_initiator.specs.declared.purpose.Purpose.{Purpose}
 use Rattle.sbp_initiator.specs.declared.purpose.Purpose.TheVariants as purposes
 use Rattle.sbp_initiator.specs.declared.purpose.Wanted.TheVariants as wants
-use Rattle.sbp_initiator.specs.declared.state.InitiatorState.{InitiatorState}
-use Rattle.sbp_initiator.specs.Effects.{Turn}
-use Rattle.sbp_initiator.specs.Initiators.{new_state}
-use Rattle.sbp_initiator.specs.Receiving.{expire_step, receive_step}
-use Rattle.sbp_initiator.specs.Refusals.{refusal, rings}
-use Rattle.sbp_initiator.specs.Seeing.{see_step}
-use Rattle.sbp_initiator.specs.States.{is_unwritten, wanted_body}
-use Rattle.sbp_journal.specs.Addresses.{Access, access_of}
-use Rattle.sbp_journal.specs.Outgoings.{OutboxState, empty_outbox}
-use Rattle.sbp_journal.specs.Run.{Moment, asked, said}
-use Rattle.sbp_journal.specs.declared.cause.Judged.{Judged}
 use Rattle.sbp_journal.specs.declared.cause.Judged.TheVariants as judgements
-use Rattle.sbp_journal.specs.declared.event.Action.{Action}
 use Rattle.sbp_journal.specs.declared.event.Action.TheVariants as actions
 use Rattle.sbp_journal.specs.declared.event.Event.TheVariants as events
-use Rattle.sbp_journal.specs.declared.note.Note.{Note}
 use Rattle.sbp_journal.specs.declared.note.Note.TheVariants as notes
-use Rattle.sbp_journal.specs.declared.outbox.Outgoing.{Outgoing}
-use Rattle.sbp_journal.specs.declared.side.Side.{Side}
 use Rattle.sbp_journal.specs.declared.side.Side.TheVariants as sides
-use Rattle.sbp_laws.specs.Hosts.{Host, host_at, list_begins}
-use Rattle.sbp_laws.specs.Packets.{access_in_bytes}
-use Rattle.sbp_laws.specs.Turns.{EachMoment, event_of}
-use Rattle.sbp_session.specs.Laws.{carried}
-use Rattle.sbp_session.specs.Seats.{response_in}
-use Rattle.sbp_session.specs.declared.seat.Seat.{Seat}
 use Rattle.sbp_session.specs.declared.seat.Seat.TheVariants as seats
-use Rattle.sbp_world.specs.Hosts.Calls.{behind}
 use Rattle.sbp_world.proofs.Hosts.ActLeft.{act_left}
 use Rattle.sbp_world.proofs.Hosts.Carried.{between_runs, of_runs}
 use Rattle.sbp_world.proofs.Hosts.Carries.{Carries, is_apart}
@@ -53,10 +20,8 @@ use Rattle.sbp_world.proofs.Hosts.Layered.{AreTame, expire_left, is_tame, receiv
 use Rattle.sbp_world.proofs.Hosts.Pointed.{stale_is}
 use Rattle.sbp_world.proofs.Hosts.PointerNotes.{tame_told}
 use Rattle.sbp_world.proofs.Hosts.PointSees.{see_left}
-use Rattle.sbp_world.specs.Sessions.Blocks.{GotBlocks}
 use Rattle.sbp_world.proofs.Sessions.BlockRuns.{blocks_law}
 use Rattle.sbp_world.proofs.Sessions.HoldingRuns.{Held, behind_blocks, first_held, held_carried, peel}
-use Rattle.sbp_world.specs.Lists.Placings.{IsAtLogin, RingsAt, RingsLaw}
 use Rattle.sbp_world.proofs.Lists.ManageTerms.{same_some}
 use Rattle.sbp_world.proofs.Lists.ManageWrites.{Spells, act_bytes, no_action, other_node, same_action, spells_known}
 use Rattle.sbp_world.proofs.Common.{untrue}

@@ -1,18 +1,8 @@
 -- In every run a node sees no generation before the one that it is in.
-use Rattle.std.proofs.Common.{arith, ◌≡◌, sym, subst, ℕ, ◌≤◌, true, List, [], ◌∷◌, Option, Some, None, Result, Ok, Err}
-use Rattle.label_table.specs.declared.judgement.Asked.{Asked}
-use Rattle.label_table.specs.declared.reply.Stale.{Stale}
-use Rattle.label_table.specs.Layer.{Finding, answering_step, asking_step, expiring_step, judging_step, of_again, of_generation, of_grammar, of_label, of_request, of_response}
-use Rattle.sbp_journal.specs.Run.{Moment, said}
-use Rattle.sbp_journal.specs.Wire.{terms}
-use Rattle.sbp_journal.specs.declared.cause.Cause.{Cause}
-use Rattle.sbp_journal.specs.declared.note.Note.{Note}
+use Rattle.sbp_world.proofs.Words.Std.{arith, ◌≡◌, sym, subst, ℕ, ◌≤◌, true, List, [], ◌∷◌, Option, Some, None, Result, Ok, Err}
+use Rattle.sbp_world.proofs.Words.Wire.{Asked, Stale, Finding, answering_step, asking_step, expiring_step, judging_step, of_again, of_generation, of_grammar, of_label, of_request, of_response, Moment, said, terms, Cause, Note, Due, Node, Wire, decided, first_note, id_for, Move, after, answer, answering, ask, asking, deliver, disown, expire, expiring, inject, lose, moved, reset, see, start, tell, May, MayAll, is_plain, Reached}
+use Rattle.sbp_world.proofs.Words.Laws.{EachMoment}
 use Rattle.sbp_journal.specs.declared.note.Note.TheVariants as notes
-use Rattle.sbp_laws.specs.Turns.{EachMoment}
-use Rattle.bus_transactions.specs.Wire.{Due, Node, Wire, decided, first_note, id_for}
-use Rattle.bus_transactions.specs.Moves.{Move, after, answer, answering, ask, asking, deliver, disown, expire, expiring, inject, lose, moved, reset, see, start, tell}
-use Rattle.bus_transactions.specs.May.{May, MayAll, is_plain}
-use Rattle.bus_transactions.specs.Reached.{Reached}
 use Rattle.bus_transactions.proofs.Stands.{Stands}
 use Rattle.bus_transactions.proofs.All.{all_stand}
 

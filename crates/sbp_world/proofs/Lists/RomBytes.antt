@@ -1,11 +1,7 @@
 -- The bytes of the target's ROM: 54h stands there once, and behind it 00, 40 and 00. So four bytes from any place of it on are no other quadlet with that first byte.
-use Rattle.std.proofs.Common.{arith, ◌≡◌, ◌∙◌, refl, sym, ap, ℕ, zero, suc, ◌+◌, ◌*◌, ◌%◌, ◌^◌, ◌<◌, ◌≤◌, ◌==◌, nat_lt, ◌&&◌, ◌||◌, not, Bool, true, false, List, [], ◌∷◌, take, drop}
-use Rattle.std.proofs.lemmas.Bool.Decides.{nat_tests}
-use Rattle.config_rom.specs.Make.{made}
-use Rattle.config_rom.specs.Sum.{low_bits, sum_of}
-use Rattle.orb_layout.specs.Pointers.{quad_bytes}
-use Rattle.sbp_base.specs.Quadlets.{quad}
-use Rattle.target_base.specs.Beginning.{target_eui}
+use Rattle.sbp_world.proofs.Words.Std.{arith, ◌≡◌, ◌∙◌, refl, sym, ap, ℕ, zero, suc, ◌+◌, ◌*◌, ◌%◌, ◌^◌, ◌<◌, ◌≤◌, ◌==◌, nat_lt, ◌&&◌, ◌||◌, not, Bool, true, false, List, [], ◌∷◌, take, drop, nat_tests, quad}
+use Rattle.sbp_world.proofs.Words.Target.{made, low_bits, sum_of, target_eui}
+use Rattle.sbp_world.proofs.Words.Initiator.{quad_bytes}
 use Rattle.sbp_world.proofs.Lists.RomKeys.{IsRomQuad, none_keyed}
 use Rattle.sbp_world.proofs.Common.{untrue}
 

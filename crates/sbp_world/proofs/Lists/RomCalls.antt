@@ -1,34 +1,11 @@
 -- Each packet that a target hands out in a call, where it gives a quadlet, gives one that may stand in its ROM: one of the ROM itself, whichever four bytes were read; the number of an
 -- agent's state; or 0, where nothing is given.
-use Rattle.std.proofs.Common.{arith, ◌≡◌, ◌∙◌, refl, sym, ap, subst, ℕ, ◌-◌, ◌==◌, ◌&&◌, not, Bool, true, false, List, [], ◌∷◌, ◌++◌, length, Option, Some, None}
-use Rattle.async_packet.specs.Canon.{canon}
-use Rattle.async_packet.specs.Labels.{LabelParts}
-use Rattle.async_packet.specs.declared.packet.Header.{Header}
-use Rattle.async_packet.specs.Packet.{Packet, header_in, lock, lock_response, read_block, read_block_response, read_quadlet, read_quadlet_response, write_block, write_quadlet, write_response}
-use Rattle.byteorder.specs.Endian.{big_bytes}
-use Rattle.command_agent.specs.declared.step.AgentState.{AgentState}
+use Rattle.sbp_world.proofs.Words.Std.{arith, ◌≡◌, ◌∙◌, refl, sym, ap, subst, ℕ, ◌-◌, ◌==◌, ◌&&◌, not, Bool, true, false, List, [], ◌∷◌, ◌++◌, length, Option, Some, None, big_bytes}
+use Rattle.sbp_world.proofs.Words.Wire.{canon, LabelParts, Header, Packet, header_in, lock, lock_response, read_block, read_block_response, read_quadlet, read_quadlet_response, write_block, write_quadlet, write_response, Asked, response_to, Finding, Layer, answering_step, asking_step, expiring_step, judging_step, of_again, of_generation, of_grammar, of_label, of_request, of_response, seeing_step, Start, agent_reset, agent_state, begins_in_rom, doorbell, lies_in_rom, management_agent, no_start, orb_pointer, register, rom_base, rom_start, start_at, start_serves, unsolicited_enable, Outgoing, empty_outbox, Judging, first_or, ignored_as, judging_of, serving, target_rcode, telling}
+use Rattle.sbp_world.proofs.Words.Target.{AgentState, state_in, tick_step, Disk, Told, Purpose, NodeState, desk_at, scene, answer_in, expired, received, received_as, seen, ticked, whole, answer_step, answered, state_number, response_of, BeginsWith, facts_at, gives_at, judged_by, rom_gives, row_gives, row_rcode, state_gives, request, with_asked}
 use Rattle.command_agent.specs.declared.step.AgentState.TheVariants as states
-use Rattle.command_agent.specs.Machine.{state_in}
-use Rattle.label_table.specs.declared.judgement.Asked.{Asked}
-use Rattle.label_table.specs.Bodies.{response_to}
-use Rattle.label_table.specs.Layer.{Finding, Layer, answering_step, asking_step, expiring_step, judging_step, of_again, of_generation, of_grammar, of_label, of_request, of_response, seeing_step}
-use Rattle.login_table.specs.Table.{tick_step}
-use Rattle.rbc_disk.specs.Disk.{Disk}
-use Rattle.rbc_disk.specs.Runs.{Told}
 use Rattle.sbp_journal.specs.Addresses as table
-use Rattle.sbp_journal.specs.Addresses.{Start, agent_reset, agent_state, begins_in_rom, doorbell, lies_in_rom, management_agent, no_start, orb_pointer, register, rom_base, rom_start, start_at, start_serves, unsolicited_enable}
-use Rattle.sbp_journal.specs.declared.outbox.Outgoing.{Outgoing}
-use Rattle.sbp_journal.specs.Outgoings.{empty_outbox}
-use Rattle.sbp_journal.specs.Rows.{Judging, first_or, ignored_as, judging_of, serving, target_rcode, telling}
-use Rattle.sbp_target.specs.declared.purpose.Purpose.{Purpose}
-use Rattle.sbp_target.specs.Nodes.{NodeState, desk_at, scene}
-use Rattle.sbp_target.specs.Receiving.{answer_in, expired, received, received_as, seen, ticked}
-use Rattle.sbp_target.specs.Replies.{whole}
-use Rattle.sbp_target.specs.Sending.{answer_step}
-use Rattle.sbp_target.specs.Serving.{answered, request_step, state_number}
-use Rattle.sbp_target.specs.Histories.Answers.{response_of}
-use Rattle.sbp_target.specs.Histories.Judgements.{BeginsWith, facts_at, gives_at, judged_by, rom_gives, row_gives, row_rcode, state_gives}
-use Rattle.sbp_target.specs.Histories.Layers.{request, with_asked}
+use Rattle.sbp_target.specs.Serving.{request_step}
 use Rattle.sbp_target.proofs.Histories.Pass.{Keeps, Said, concludes, expires_in, sees_by, ticks_by}
 use Rattle.sbp_target.proofs.Histories.Rowing.{row_law}
 use Rattle.sbp_target.proofs.Histories.Served.{judges}

@@ -1,19 +1,7 @@
 -- The packets of a target that give a quadlet (IEEE 1394-1995, read response for data quadlet): such a packet is the response to a read of a quadlet, with the quadlet that
 -- was given. No request is one.
-use Rattle.std.proofs.Common.{arith, ◌≡◌, ◌∙◌, refl, sym, ap, ℕ, ◌+◌, ◌*◌, ◌/◌, ◌%◌, ◌^◌, ◌<◌, ◌==◌, Bool, true, false, cond, List, [], ◌++◌, Option, Some, None}
-use Rattle.async_packet.specs.declared.packet.Header.{Header}
-use Rattle.async_packet.specs.Canon.{canon, first_quad, four, response_quad, three}
-use Rattle.async_packet.specs.Fields.{tcode_of, value_of}
-use Rattle.async_packet.specs.Packet.{Packet, lock, lock_response, read_block, read_block_response, read_quadlet, read_quadlet_response, write_block, write_quadlet, write_response}
-use Rattle.byteorder.specs.Endian.{big_bytes}
-use Rattle.byteorder.specs.Numbers.{big_from-bytes}
-use Rattle.label_table.specs.declared.judgement.Asked.{Asked}
-use Rattle.label_table.specs.Bodies.{Body, block_read, block_write, header_to, quadlet_read, quadlet_write, request_with, response_to}
-use Rattle.label_table.specs.Layer.{Layer, asked_at, asking_in, asking_step, peer_at, peer_place, unlabelled}
-use Rattle.label_table.specs.Peers.{begun_for}
-use Rattle.label_table.specs.Requests.{with_label}
-use Rattle.label_table.specs.Table.{begin_at, begin_step, lowest_from}
-use Rattle.sbp_base.specs.Quadlets.{quad}
+use Rattle.sbp_world.proofs.Words.Std.{arith, ◌≡◌, ◌∙◌, refl, sym, ap, ℕ, ◌+◌, ◌*◌, ◌/◌, ◌%◌, ◌^◌, ◌<◌, ◌==◌, Bool, true, false, cond, List, [], ◌++◌, Option, Some, None, big_bytes, big_from-bytes, quad}
+use Rattle.sbp_world.proofs.Words.Wire.{Header, canon, first_quad, four, response_quad, three, tcode_of, value_of, Packet, lock, lock_response, read_block, read_block_response, read_quadlet, read_quadlet_response, write_block, write_quadlet, write_response, Asked, Body, block_read, block_write, header_to, quadlet_read, quadlet_write, request_with, response_to, Layer, asked_at, asking_in, asking_step, peer_at, peer_place, unlabelled, begun_for, with_label, begin_at, begin_step, lowest_from}
 use Rattle.sbp_world.proofs.Lists.RomBytes.{IsGiven, none_given}
 use Rattle.sbp_world.proofs.Lists.RomKeys.{IsRomQuad, none_keyed}
 use Rattle.sbp_world.proofs.Hosts.Mild.{quad_tcode, tcode_same}

@@ -1,57 +1,22 @@
 -- In every run each initiator knows MANAGEMENT_AGENT where the target has it, and writes there.
-use Rattle.std.specs.Prelude.{unwrap_or}
-use Rattle.std.proofs.Common.{arith, ◌≡◌, refl, sym, ◌∙◌, ap, subst, ℕ, suc, ◌+◌, ◌==◌, nat_eq, is_some, not, Bool, true, false, cond, List, [], ◌∷◌, ◌++◌, map, Option, Some, None, Result, Ok, Err}
-use Rattle.std.proofs.lemmas.Bool.Decides.{nat_tests}
-use Rattle.std.proofs.lemmas.Option.{same_Some}
-use Rattle.async_packet.specs.declared.fault.PacketFault.{PacketFault}
-use Rattle.async_packet.specs.Labels.{LabelParts}
-use Rattle.async_packet.specs.Packet.{Packet, header_in, lock, lock_response, read_block, read_block_response, read_quadlet, read_quadlet_response, write_block, write_quadlet, write_response}
-use Rattle.async_packet.specs.Reading.{reading}
+use Rattle.sbp_world.proofs.Words.Std.{unwrap_or, arith, ◌≡◌, refl, sym, ◌∙◌, ap, subst, ℕ, suc, ◌+◌, ◌==◌, nat_eq, is_some, not, Bool, true, false, cond, List, [], ◌∷◌, ◌++◌, map, Option, Some, None, Result, Ok, Err, nat_tests, same_Some}
+use Rattle.sbp_world.proofs.Words.Wire.{PacketFault, LabelParts, Packet, header_in, lock, lock_response, read_block, read_block_response, read_quadlet, read_quadlet_response, write_block, write_quadlet, write_response, reading, Asked, Facts, row_of, Finding, Layer, facts_in, facts_of, judged_by, judging_step, of_again, of_generation, of_grammar, of_label, of_request, of_response, judged_note, Access, management_address, empty_outbox, Moment, asked, said, Sending, Terms, terms, Judged, Action, Event, Note, Side}
+use Rattle.sbp_world.proofs.Words.Initiator.{Demand, Purpose, InitiatorState, act_step, asked_for, demand_of, manage_demand, Turn, new_state, expire_step, receive_step, see_step, ending_of, place_of, wanted_body}
+use Rattle.sbp_world.proofs.Words.Laws.{operation_of, access_in_bytes, event_of}
+use Rattle.sbp_world.proofs.Words.World.{history_of, Run, world_after, beginning, after_all, WorldState, begun, initiator_at, behind, more_deliveries, asked_in, managed_write, manages, own_action, AreManaged, RomLaw, WritesManaged}
 use Rattle.bus_transactions.proofs.FitJudged.{spelled}
 use Rattle.bus_transactions.proofs.Fits.{request_fits}
-use Rattle.label_table.specs.declared.judgement.Asked.{Asked}
-use Rattle.label_table.specs.Judging.{Facts, row_of}
-use Rattle.label_table.specs.Layer.{Finding, Layer, facts_in, facts_of, judged_by, judging_step, of_again, of_generation, of_grammar, of_label, of_request, of_response}
-use Rattle.sbp_bus.specs.Packets.{judged_note}
-use Rattle.sbp_journal.specs.Addresses.{Access, management_address}
-use Rattle.sbp_journal.specs.Outgoings.{empty_outbox}
-use Rattle.sbp_journal.specs.Run.{Moment, asked, said}
-use Rattle.sbp_journal.specs.Transactions.{Sending}
-use Rattle.sbp_journal.specs.Wire.{Terms, terms}
-use Rattle.sbp_journal.specs.declared.cause.Judged.{Judged}
 use Rattle.sbp_journal.specs.declared.cause.Judged.TheVariants as judgements
-use Rattle.sbp_journal.specs.declared.event.Action.{Action}
 use Rattle.sbp_journal.specs.declared.event.Action.TheVariants as actions
-use Rattle.sbp_journal.specs.declared.event.Event.{Event}
 use Rattle.sbp_journal.specs.declared.event.Event.TheVariants as events
-use Rattle.sbp_journal.specs.declared.note.Note.{Note}
 use Rattle.sbp_journal.specs.declared.note.Note.TheVariants as notes
-use Rattle.sbp_journal.specs.declared.side.Side.{Side}
 use Rattle.sbp_journal.specs.declared.side.Side.TheVariants as sides
-use Rattle.sbp_initiator.specs.declared.purpose.Demand.{Demand}
 use Rattle.sbp_initiator.specs.declared.purpose.Ending.TheVariants as endings
-use Rattle.sbp_initiator.specs.declared.purpose.Purpose.{Purpose}
-use Rattle.sbp_initiator.specs.declared.state.InitiatorState.{InitiatorState}
-use Rattle.sbp_initiator.specs.Acting.{act_step, asked_for, demand_of, manage_demand}
-use Rattle.sbp_initiator.specs.Effects.{Turn}
-use Rattle.sbp_initiator.specs.Initiators.{new_state}
-use Rattle.sbp_initiator.specs.Receiving.{expire_step, receive_step}
-use Rattle.sbp_initiator.specs.Seeing.{see_step}
-use Rattle.sbp_initiator.specs.States.{ending_of, place_of, wanted_body}
-use Rattle.sbp_laws.specs.Hosts.{operation_of}
-use Rattle.sbp_laws.specs.Packets.{access_in_bytes}
-use Rattle.sbp_laws.specs.Turns.{event_of}
 use Rattle.sbp_world.proofs.FitInitiator.Acts.{IfDemand, demand_fits}
 use Rattle.sbp_world.proofs.FitInitiator.Law.{fitting_law as own_fitting_law}
 use Rattle.sbp_world.proofs.FitTarget.Law.{fitting_law}
 use Rattle.sbp_world.proofs.Wire.Holding.{TargetOf, target_small}
 use Rattle.sbp_world.proofs.Wire.Runs.{sound_after}
-use Rattle.sbp_world.specs.Histories.{history_of}
-use Rattle.sbp_world.specs.Runs.{Run, after as world_after, beginning}
-use Rattle.sbp_world.specs.Settling.{after_all}
-use Rattle.sbp_world.specs.Worlds.{WorldState, begun, initiator_at}
-use Rattle.sbp_world.specs.Hosts.Calls.{behind}
-use Rattle.sbp_world.specs.Hosts.Runs.{more_deliveries}
 use Rattle.sbp_world.proofs.Hosts.ActLeft.{act_left}
 use Rattle.sbp_world.proofs.Hosts.Aimed.{IsAimed, aimed_carried, first_aimed}
 use Rattle.sbp_world.proofs.Hosts.Carried.{Knows as KnowsAll, between_runs, of_runs}
@@ -62,14 +27,12 @@ use Rattle.sbp_world.proofs.Hosts.Pointed.{stale_is}
 use Rattle.sbp_world.proofs.Hosts.PointerNotes.{tame_told}
 use Rattle.sbp_world.proofs.Hosts.PointSees.{see_left}
 use Rattle.sbp_world.proofs.Hosts.Shown.{IsHeard, IsShown}
-use Rattle.sbp_world.specs.Pointers.Moments.{asked_in, managed_write, manages, own_action}
 use Rattle.sbp_world.proofs.Pointers.Ages.{is_leaving, moment_sent}
 use Rattle.sbp_world.proofs.Pointers.Asks.{act_bytes, asks_for}
 use Rattle.sbp_world.proofs.Pointers.Ending.{read_in}
 use Rattle.sbp_world.proofs.Pointers.Finds.{closes_at}
 use Rattle.sbp_world.proofs.Pointers.Spelled.{spelled_by}
 use Rattle.sbp_world.proofs.Pointers.Waits.{asked_told}
-use Rattle.sbp_world.specs.Lists.Roms.{AreManaged, RomLaw, WritesManaged}
 use Rattle.sbp_world.proofs.Lists.RomCodes.{IsFair}
 use Rattle.sbp_world.proofs.Lists.RomKeys.{IsRomQuad, none_keyed}
 use Rattle.sbp_world.proofs.Lists.RomLearns.{IsBrought, IsQuad, Knows, act_knows, done_can, expire_knows, first_knows, receive_knows, see_knows}

@@ -1,14 +1,10 @@
 -- What a ROM tells of its SBP-2 unit (IEEE 1212, configuration ROM; NCITS 325-1998, unit directory): where each quadlet with the key byte of MANAGEMENT_AGENT, 54h, has
 -- the value 4000h, that is the distance which the unit has, whichever quadlets these are.
-use Rattle.std.proofs.Common.{arith, ◌≡◌, ◌∙◌, refl, sym, ap, subst, ℕ, zero, suc, ◌+◌, ◌*◌, ◌/◌, ◌%◌, ◌^◌, ◌==◌, ◌&&◌, ◌||◌, Bool, true, false, cond, List, [], ◌∷◌, ◌++◌, take, drop, slice_index, Some, None, Ok}
-use Rattle.std.specs.List.{AllByRecursion, flat_map, list_any}
-use Rattle.config_rom.specs.declared.block.Block.{Block}
-use Rattle.config_rom.specs.declared.block.Entry.{Entry}
+use Rattle.sbp_world.proofs.Words.Std.{arith, ◌≡◌, ◌∙◌, refl, sym, ap, subst, ℕ, zero, suc, ◌+◌, ◌*◌, ◌/◌, ◌%◌, ◌^◌, ◌==◌, ◌&&◌, ◌||◌, Bool, true, false, cond, List, [], ◌∷◌, ◌++◌, take, drop, Some, None, Ok, AllByRecursion, flat_map, list_any}
+use Rattle.sbp_world.proofs.Words.Target.{Block, Entry, SbpUnit, Tree, reading, entries_from, entry_at, Directory, directories, first_unit, first_value, has_key, has_value, is_sbp, is_unit, names_unit, root_entries, sbp_unit_of, type_bits, unit_of}
+use Rattle.std.proofs.Common.{slice_index}
 use Rattle.config_rom.specs.declared.block.EntryKind.TheVariants as kinds
-use Rattle.config_rom.specs.declared.unit.SbpUnit.{SbpUnit}
-use Rattle.config_rom.specs.Reading.{Tree, reading}
-use Rattle.config_rom.specs.Tree.{entries_from, entries_of, entry_at}
-use Rattle.config_rom.specs.Unit.{Directory, directories, first_unit, first_value, has_key, has_value, is_sbp, is_unit, names_unit, root_entries, sbp_unit_of, type_bits, unit_of}
+use Rattle.config_rom.specs.Tree.{entries_of}
 use Rattle.config_rom.proofs.Heads.{tree-of}
 use Rattle.sbp_world.proofs.Common.{equal, and_second, untrue}
 

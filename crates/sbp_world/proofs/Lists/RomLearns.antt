@@ -1,68 +1,23 @@
 -- What an initiator learns of MANAGEMENT_AGENT: where each quadlet that it reads of a ROM is one that may stand in the target's, it knows no other address than the one that
 -- the target has, and it knows this one as soon as its session has left the state Out. Each call keeps that; only the response to a read of the ROM brings a quadlet.
-use Rattle.std.proofs.Common.{◌≡◌, ◌∙◌, refl, sym, ap, ℕ, nat_eq, nat_lt, ◌&&◌, not, is_some, Bool, true, false, cond, List, [], ◌∷◌, ◌++◌, length, replicate, Option, Some, None, Result, Ok, Err}
-use Rattle.std.proofs.lemmas.Option.{same_Some}
-use Rattle.std.proofs.lemmas.Bool.{not-false}
-use Rattle.async_packet.specs.declared.packet.Header.{Header}
-use Rattle.async_packet.specs.Labels.{LabelParts}
-use Rattle.async_packet.specs.Packet.{Packet, lock, lock_response, read_block, read_block_response, read_quadlet, read_quadlet_response, write_block, write_quadlet, write_response}
-use Rattle.bus_memory.specs.Access.{read_step}
-use Rattle.byteorder.specs.Endian.{big_bytes}
-use Rattle.config_rom.specs.declared.fault.RomFault.{RomFault}
-use Rattle.config_rom.specs.declared.unit.SbpUnit.{SbpUnit}
-use Rattle.config_rom.specs.Reading.{Tree, reading}
-use Rattle.config_rom.specs.Unit.{sbp_unit_of}
-use Rattle.initiator_base.specs.declared.fifos.Fifo.{Fifo}
+use Rattle.sbp_world.proofs.Words.Std.{◌≡◌, ◌∙◌, refl, sym, ap, ℕ, nat_eq, nat_lt, ◌&&◌, not, is_some, Bool, true, false, cond, List, [], ◌∷◌, ◌++◌, length, replicate, Option, Some, None, Result, Ok, Err, same_Some, not-false, big_bytes}
+use Rattle.sbp_world.proofs.Words.Wire.{Header, LabelParts, Packet, lock, lock_response, read_block, read_block_response, read_quadlet, read_quadlet_response, write_block, write_quadlet, write_response, Asked, Stale, Finding, Layer, asking_step, expiring_step, judging_step, of_again, of_generation, of_grammar, of_label, of_request, of_response, seeing_step, management_address, OutboxState, empty_outbox, Action, Cmd, Operation, OpWord, Refusals, first_row}
+use Rattle.sbp_world.proofs.Words.Target.{RomFault, SbpUnit, Tree, reading, sbp_unit_of, is_block}
+use Rattle.sbp_world.proofs.Words.Initiator.{read_step, Fifo, is_dead_kind, management_at, with_quad, OrbFault, StatusBlock, StatusKind, PresentList, ListState, drop_lists, high_lists, low_lists, take_lists, write_lists, find_in, TicketParts, Seat, Event, bad, conflict, entered, failed, from_out, from_stuck, goes, good, pointed, pointing, reset, sent, Demand, Ending, Purpose, Running, InitiatorState, act_step, append_step, asked_as, asked_for, demand_of, demanded_as, done_step, dummy_for, facts_with, judged_as, link_as, link_step, login_id, low_as, low_step, managed_by, orb_by, pinned_for, put_as, put_step, ring_for, with_running, put_lists, ask_quad, asked_quad, conflict_for, conflict_step, doorbell_ended, drop_list_step, drop_where, dropped_as, enable_ended, end_own_for, end_own_step, end_step, ended_for, ended_step, fail_step, fault_number, finish_rom, good_end, good_event, is_address, is_conflict, known_where, managed_step, management_ended, moved, moves_session, next_quad, pointer_ended, reset_ended, response_of, rom_ended, state_ended, then_step, with_answered, with_dead, with_rom, with_unit, new_state, address_error, addressed, block_at, block_by, block_step, called, expire_step, expired_as, fifo_of, got_step, ignored_step, is_foreign, managed_for, present_for, quadlet_at, read_as, receive_step, received, request_step, serve_step, status_step, taken_as, written_as, ends_list, is_in_held, is_in_live, needs_rom, refusal, rows_of, interrupted, resets_told, see_step, seen_as, counts_for, ending_of, is_list, is_orb_of, is_unwritten, session_of, status_in}
+use Rattle.sbp_world.proofs.Words.Laws.{operation_of}
+use Rattle.sbp_world.proofs.Words.World.{manages_in}
 use Rattle.initiator_base.specs.declared.fifos.Fifo.TheVariants as fifos
-use Rattle.initiator_base.specs.Fifos.{is_dead_kind}
-use Rattle.initiator_base.specs.Places.{management_at}
-use Rattle.initiator_base.specs.Quads.{with_quad}
-use Rattle.label_table.specs.declared.judgement.Asked.{Asked}
-use Rattle.label_table.specs.declared.reply.Stale.{Stale}
-use Rattle.label_table.specs.Layer.{Finding, Layer, asking_step, expiring_step, judging_step, of_again, of_generation, of_grammar, of_label, of_request, of_response, seeing_step}
-use Rattle.media_bay.specs.Unsolicited.{is_block}
-use Rattle.orb_layout.specs.declared.fault.OrbFault.{OrbFault}
-use Rattle.orb_layout.specs.declared.status.StatusBlock.{StatusBlock}
-use Rattle.orb_layout.specs.declared.status.StatusKind.{StatusKind}
 use Rattle.orb_layout.specs.declared.status.StatusKind.TheVariants as kinds
-use Rattle.orb_list.specs.declared.list.PresentList.{PresentList}
-use Rattle.orb_list.specs.Lists.{ListState, drop_lists, high_lists, low_lists, take_lists, write_lists}
-use Rattle.orb_list.specs.Table.{find_in}
-use Rattle.orb_list.specs.Tickets.{TicketParts}
-use Rattle.sbp_journal.specs.Addresses.{management_address}
-use Rattle.sbp_journal.specs.Outgoings.{OutboxState, empty_outbox}
 use Rattle.sbp_journal.specs.declared.cause.Cause.TheVariants as causes
-use Rattle.sbp_journal.specs.declared.event.Action.{Action}
 use Rattle.sbp_journal.specs.declared.event.Action.TheVariants as actions
-use Rattle.sbp_journal.specs.declared.event.Cmd.{Cmd}
-use Rattle.sbp_journal.specs.declared.operation.Operation.{Operation}
 use Rattle.sbp_journal.specs.declared.operation.Operation.TheVariants as operations
-use Rattle.sbp_journal.specs.declared.operation.OpWord.{OpWord}
 use Rattle.sbp_journal.specs.declared.operation.OpWord.TheVariants as words
-use Rattle.sbp_journal.specs.Rows.{Refusals, first_row}
-use Rattle.sbp_session.specs.declared.seat.Seat.{Seat}
 use Rattle.sbp_session.specs.declared.seat.Seat.TheVariants as seats
 use Rattle.sbp_session.specs.declared.seat.Origin.TheVariants as origins
-use Rattle.sbp_session.specs.Moves.{Event, bad, conflict, entered, failed, from_out, from_stuck, goes, good, pointed, pointing, reset, sent}
-use Rattle.sbp_initiator.specs.declared.purpose.Demand.{Demand}
-use Rattle.sbp_initiator.specs.declared.purpose.Ending.{Ending}
 use Rattle.sbp_initiator.specs.declared.purpose.Ending.TheVariants as endings
 use Rattle.sbp_initiator.specs.declared.purpose.Pointing.TheVariants as pointings
-use Rattle.sbp_initiator.specs.declared.purpose.Purpose.{Purpose}
 use Rattle.sbp_initiator.specs.declared.purpose.Purpose.TheVariants as purposes
-use Rattle.sbp_initiator.specs.declared.purpose.Running.{Running}
-use Rattle.sbp_initiator.specs.declared.state.InitiatorState.{InitiatorState}
-use Rattle.sbp_initiator.specs.Acting.{act_step, append_step, asked_as, asked_for, demand_of, demanded_as, done_step, dummy_for, facts_with, judged_as, link_as, link_step, login_id, low_as, low_step, managed_by, orb_by, pinned_for, put_as, put_step, ring_for, with_running}
-use Rattle.sbp_initiator.specs.Commands.{put_lists}
-use Rattle.sbp_initiator.specs.Effects.{ask_quad, asked_quad, conflict_for, conflict_step, doorbell_ended, drop_list_step, drop_where, dropped_as, enable_ended, end_own_for, end_own_step, end_step, ended_for, ended_step, fail_step, fault_number, finish_rom, good_end, good_event, is_address, is_conflict, known_where, managed_step, management_ended, moved, moves_session, next_quad, pointer_ended, reset_ended, response_of, rom_ended, state_ended, then_step, with_answered, with_dead, with_rom, with_unit}
-use Rattle.sbp_initiator.specs.Initiators.{new_state}
-use Rattle.sbp_initiator.specs.Receiving.{address_error, addressed, block_at, block_by, block_step, called, expire_step, expired_as, fifo_of, got_step, ignored_step, is_foreign, managed_for, present_for, quadlet_at, read_as, receive_step, received, request_step, serve_step, status_step, taken_as, written_as}
-use Rattle.sbp_initiator.specs.Refusals.{ends_list, is_in_held, is_in_live, needs_rom, refusal, rows_of}
-use Rattle.sbp_initiator.specs.Seeing.{interrupted, resets_told, see_step, seen_as}
-use Rattle.sbp_initiator.specs.States.{counts_for, ending_of, is_list, is_orb_of, is_unwritten, session_of, status_in}
-use Rattle.sbp_laws.specs.Hosts.{operation_of}
 use Rattle.sbp_initiator.proofs.Histories.Actions.{allowed}
-use Rattle.sbp_world.specs.Pointers.Moments.{manages as manages_in}
 use Rattle.sbp_world.proofs.Lists.RomKeys.{AreRomQuads, IsRomQuad, management_is}
 use Rattle.sbp_world.proofs.Common.{untrue}
 

@@ -1,17 +1,10 @@
 -- Which quadlets a target gave, by a history: each packet of it that gives one gives one that may stand in its ROM.
-use Rattle.std.proofs.Common.{arith, ◌≡◌, ◌∙◌, refl, sym, ap, subst, ℕ, nat_eq, Bool, true, false, List, [], ◌∷◌, Option, Some}
-use Rattle.std.proofs.lemmas.Bool.Decides.{nat_tests}
-use Rattle.std.proofs.lemmas.Option.{same_Some}
+use Rattle.sbp_world.proofs.Words.Std.{arith, ◌≡◌, ◌∙◌, refl, sym, ap, subst, ℕ, nat_eq, Bool, true, false, List, [], ◌∷◌, Option, Some, nat_tests, same_Some}
+use Rattle.sbp_world.proofs.Words.Wire.{judged_note, Moment, asked, said, Sending, terms, Judged, Note}
 use Rattle.sbp_world.proofs.Hosts.Held.{sent_new, sent_old}
 use Rattle.sbp_world.proofs.Hosts.Layered.{is_tame}
 use Rattle.sbp_world.proofs.Pointers.Ages.{moment_sent}
-use Rattle.sbp_bus.specs.Packets.{judged_note}
-use Rattle.sbp_journal.specs.Run.{Moment, asked, said}
-use Rattle.sbp_journal.specs.Transactions.{Sending}
-use Rattle.sbp_journal.specs.Wire.{terms}
-use Rattle.sbp_journal.specs.declared.cause.Judged.{Judged}
 use Rattle.sbp_journal.specs.declared.cause.Judged.TheVariants as judgements
-use Rattle.sbp_journal.specs.declared.note.Note.{Note}
 use Rattle.sbp_journal.specs.declared.note.Note.TheVariants as notes
 use Rattle.sbp_world.proofs.Lists.RomCodes.{IsFair}
 use Rattle.sbp_world.proofs.Common.{none_is, untrue}

@@ -1,11 +1,7 @@
 -- No call of a target changes its ROM.
-use Rattle.std.proofs.Common.{◌≡◌, refl, ◌∙◌, ℕ, List, [], ◌∷◌}
-use Rattle.sbp_journal.specs.Outgoings.{empty_outbox}
-use Rattle.sbp_target.specs.Calls.{Call, after, alone, lets_expire, receives, sees, sets_key, ticks}
-use Rattle.sbp_target.specs.Histories.Moves.{Moves, free}
-use Rattle.sbp_target.specs.Nodes.{NodeState, Scene, scene}
-use Rattle.sbp_target.specs.Receiving.{new_node}
-use Rattle.sbp_target.specs.Replies.{whole}
+use Rattle.sbp_world.proofs.Words.Std.{◌≡◌, refl, ◌∙◌, ℕ, List, [], ◌∷◌}
+use Rattle.sbp_world.proofs.Words.Wire.{empty_outbox}
+use Rattle.sbp_world.proofs.Words.Target.{Call, after, alone, lets_expire, receives, sees, sets_key, ticks, Moves, free, NodeState, Scene, scene, new_node, whole}
 use Rattle.sbp_target.proofs.Histories.Views.{node_left}
 use Rattle.sbp_target.proofs.Histories.Views as moves
 

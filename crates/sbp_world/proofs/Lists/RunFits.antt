@@ -1,37 +1,18 @@
 -- How a command runs by what it was appended with: where its agent has the ORB, the buffer and the data of the command, and its unit ran it as it may, its outcome is what
 -- the plain disk allows for the request of the append.
-use Rattle.std.proofs.Common.{arith, ◌≡◌, ◌∙◌, refl, sym, ap, subst, inl, inr, ◌⊎◌, ◌<◌, ◌&&◌, nat_lt, ℕ, Bool, true, false, cond, List, [], ◌∷◌, length, take, take_all, Option, Some, Ok}
-use Rattle.std.proofs.lemmas.Bool.Decides.{nat_tests}
-use Rattle.std.proofs.lemmas.Option.{same_Some}
-use Rattle.bus_memory.specs.Memory.{Memory}
-use Rattle.orb_layout.specs.declared.command.CommandOrb.{CommandOrb}
-use Rattle.page_table.specs.Buffer.{bytes_of}
-use Rattle.page_table.specs.declared.segment.Segment.{Segment}
-use Rattle.rbc_command.specs.Commands.{command_by, command_of, moves_disc, operation_in, starts, unless_bad}
+use Rattle.sbp_world.proofs.Words.Std.{arith, ◌≡◌, ◌∙◌, refl, sym, ap, subst, inl, inr, ◌⊎◌, ◌<◌, ◌&&◌, nat_lt, ℕ, Bool, true, false, cond, List, [], ◌∷◌, length, take, Option, Some, Ok, nat_tests, same_Some}
+use Rattle.sbp_world.proofs.Words.Wire.{buffer_of, in_buffer, out_buffer, Moment, Cmd}
+use Rattle.sbp_world.proofs.Words.Target.{command_by, command_of, moves_disc, operation_in, starts, unless_bad, check_by, is_start_stop, plain_request, disk_request, Feeds, MayEnd, check_in, data_length_by, data_length_of, failure_of, need_of, PlainDisk, BufferPlan, Payload, Outcome, Machine, MayRun}
+use Rattle.sbp_world.proofs.Words.Initiator.{Memory, CommandOrb, bytes_of, Segment, IsCommand}
+use Rattle.sbp_world.proofs.Words.Laws.{laid_out, MayCarry, RunsOn, asked_data, Orb, command_at, Request, data_of, plan_of, request_at}
+use Rattle.sbp_world.proofs.Words.World.{StandsIn, request_of, IsBufferOf, IsDataIn, IsOrbOf}
+use Rattle.std.proofs.Common.{take_all}
 use Rattle.rbc_command.specs.declared.command.Command.TheVariants as commands
 use Rattle.rbc_command.specs.declared.operation.Operation.{Operation}
 use Rattle.rbc_command.specs.declared.operation.Operation.TheVariants as operations
-use Rattle.rbc_disk.specs.Checks.{check_of as check_by}
-use Rattle.rbc_disk.specs.Requests.{is_start_stop, plain_request, request_of as disk_request}
-use Rattle.rbc_disk.specs.Runs.{Feeds, MayEnd, check_in, data_length_by, data_length_of, failure_of, need_of}
-use Rattle.rbc_disk.specs.Units.{PlainDisk}
-use Rattle.rbc_disk.specs.declared.command.BufferPlan.{BufferPlan}
-use Rattle.rbc_disk.specs.declared.command.Need.TheVariants.{Payload}
-use Rattle.rbc_disk.specs.declared.command.Outcome.{Outcome}
 use Rattle.rbc_disk.specs.declared.request.Request.TheVariants as requests
-use Rattle.command_agent.specs.Machine.{Machine}
 use Rattle.command_agent.specs.Machine as agent
-use Rattle.command_agent.specs.Runs.{MayRun}
-use Rattle.sbp_initiator.specs.Commands.{IsCommand}
-use Rattle.sbp_journal.specs.Buffers.{buffer_of, in_buffer, out_buffer}
-use Rattle.sbp_journal.specs.Run.{Moment}
-use Rattle.sbp_journal.specs.declared.event.Cmd.{Cmd}
-use Rattle.sbp_laws.specs.CarriedBytes.{laid_out}
-use Rattle.sbp_laws.specs.ExecutionLaw.{MayCarry, RunsOn, asked_data}
-use Rattle.sbp_laws.specs.Lists.{Orb, command_at}
-use Rattle.sbp_laws.specs.Terms.{Request, data_of, plan_of, request_at}
-use Rattle.sbp_world.specs.Hosts.Orbs.{StandsIn, request_of}
-use Rattle.sbp_world.specs.Lists.Lists.{IsBufferOf, IsDataIn, IsDataOf, IsOrbOf}
+use Rattle.sbp_world.specs.Lists.Lists.{IsDataOf}
 use Rattle.sbp_world.proofs.Lists.Slots.{IsFilled}
 use Rattle.sbp_world.proofs.Common.{no_bytes}
 

@@ -1,29 +1,14 @@
 -- The laws of agents along lists, of the reads that they make, of the order of ends, and of appends, of every run.
-use Rattle.std.proofs.Common.{◌≡◌, sym, ap, subst, ℕ, ◌<◌, ◌≤◌, Bool, true, false, List, [], ◌∷◌, ◌++◌, map, length, Option}
-use Rattle.rbc_disk.specs.Runs.{Told}
-use Rattle.sbp_journal.specs.declared.event.Event.{Event}
-use Rattle.sbp_journal.specs.declared.note.NoteBuffer.{NoteBuffer}
+use Rattle.sbp_world.proofs.Words.Std.{◌≡◌, sym, ap, subst, ℕ, ◌<◌, ◌≤◌, Bool, true, false, List, [], ◌∷◌, ◌++◌, map, length, Option}
+use Rattle.sbp_world.proofs.Words.Wire.{Event, NoteBuffer, Moment, asked, said}
+use Rattle.sbp_world.proofs.Words.Target.{Told, Disk}
+use Rattle.sbp_world.proofs.Words.Laws.{injectors, OrderLaw}
+use Rattle.sbp_world.proofs.Words.World.{history_of, Run, after, beginning, MayAll, after_all, Scene, WorldState, begun, DeliversMore, IsRun, AlongLaw, AreAlong, GoesAlong, BringsLaw, AreSentBehind, SentReadsLaw, AllBrought, IsCalm, OpenAfter, OpenBefore, OpenBehind, OpenBetween, OpenLists, initiator_in, machine_at, AppendsLaw, IsAppend, OrderRunLaw, OpensLaw}
 use Rattle.sbp_journal.specs.declared.note.Note.TheVariants as notes
-use Rattle.sbp_journal.specs.Run.{Moment, asked, said}
-use Rattle.sbp_laws.specs.Lawful.{injectors}
-use Rattle.sbp_laws.specs.OrderLaw.{OrderLaw}
-use Rattle.sbp_world.specs.Histories.{history_of}
-use Rattle.sbp_world.specs.Runs.{Run, after, beginning}
-use Rattle.sbp_world.specs.Settling.{MayAll, after_all}
-use Rattle.sbp_world.specs.Worlds.{Scene, WorldState, begun}
-use Rattle.sbp_world.specs.Agents.Management.Terms.{DeliversMore}
 use Rattle.sbp_world.proofs.Agents.Management.Still.{hist}
-use Rattle.sbp_world.specs.Hosts.Runs.{IsRun}
-use Rattle.sbp_world.specs.Lists.Along.{AlongLaw, AreAlong, GoesAlong}
-use Rattle.sbp_world.specs.Lists.Brings.{BringsLaw}
-use Rattle.sbp_world.specs.Lists.SentReads.{AreSentBehind, SentReadsLaw}
 use Rattle.sbp_world.proofs.Lists.Early.{Early}
-use Rattle.rbc_disk.specs.Disk.{Disk}
-use Rattle.sbp_world.specs.Lists.Needs.{AllBrought, IsCalm, OpenAfter, OpenBefore, OpenBehind, OpenBetween, OpenLists, initiator_in, machine_at}
-use Rattle.sbp_world.specs.Lists.Orders.{AppendsLaw, IsAppend, OrderRunLaw}
 use Rattle.sbp_world.proofs.Lists.Calm.{asked_calm, calm_before}
 use Rattle.sbp_world.proofs.Lists.Kept.{Kept}
-use Rattle.sbp_world.specs.Lists.Opens.{OpensLaw}
 use Rattle.sbp_world.proofs.Lists.OpenProved.{opens_law, nobody_needs}
 use Rattle.sbp_world.proofs.Lists.Passing.{PassLaw}
 use Rattle.sbp_world.proofs.Lists.Runs.{At, EarlyAfter, KeptAfter, at_told, early_after, facts, facts_at, kept_after, kept_told, lists_at, lists_here}

@@ -1,29 +1,12 @@
 -- A run that the target tells of is of the ORB by whose name its response brought it, where agents have the ORBs prepared last in their slots.
-use Rattle.std.proofs.Common.{arith, ◌≡◌, ◌∙◌, refl, sym, ap, subst, ℕ, ◌<◌, Bool, true, false, List, ◌∷◌, ◌++◌, Option, Some, None}
-use Rattle.command_agent.specs.declared.step.AgentStep.{AgentStep}
-use Rattle.command_agent.specs.Machine.{Machine}
-use Rattle.orb_layout.specs.declared.command.CommandOrb.{CommandOrb}
-use Rattle.rbc_disk.specs.Disk.{Disk}
-use Rattle.rbc_disk.specs.Runs.{Told}
-use Rattle.sbp_bus.specs.Words.{check_of}
-use Rattle.sbp_journal.specs.Run.{Moment, said}
-use Rattle.sbp_journal.specs.declared.note.Note.{Note}
+use Rattle.sbp_world.proofs.Words.Std.{arith, ◌≡◌, ◌∙◌, refl, sym, ap, subst, ℕ, ◌<◌, Bool, true, false, List, ◌∷◌, ◌++◌, Option, Some, None}
+use Rattle.sbp_world.proofs.Words.Wire.{check_of, Moment, said, Note}
+use Rattle.sbp_world.proofs.Words.Target.{AgentStep, Machine, Disk, Told, answer_in, heard_by, Which}
+use Rattle.sbp_world.proofs.Words.Initiator.{CommandOrb}
+use Rattle.sbp_world.proofs.Words.Laws.{address_of, named_orb, prepared_in, slot_at, Moved}
+use Rattle.sbp_world.proofs.Words.World.{holder, Scene, WorldState, IsNamed, IsOpenAt, is_open_at, RunIsNamed, RunIsNamedFed, RunIsFed, own_reads, AllAhead, AllAwaited}
 use Rattle.sbp_journal.specs.declared.note.Note.TheVariants as notes
-use Rattle.sbp_laws.specs.CarriedBytes.{address_of}
-use Rattle.sbp_laws.specs.Lists.{orb as named_orb, prepared_in, slot_at}
-use Rattle.sbp_target.specs.Receiving.{answer_in}
-use Rattle.sbp_world.specs.Telling.{holder}
-use Rattle.sbp_world.specs.Worlds.{Scene, WorldState}
 use Rattle.sbp_world.proofs.Agents.Management.Still.{hist}
-use Rattle.agent_laws.specs.Along.Steps.{heard_by}
-use Rattle.sbp_world.specs.Lists.Needs.{IsNamed, IsOpenAt, is_open_at}
-use Rattle.sbp_world.specs.Lists.OrbNames.{RunIsNamed}
-use Rattle.command_agent.specs.declared.step.Which.{Which}
-use Rattle.sbp_laws.specs.CarriedBytes.{Moved}
-use Rattle.sbp_world.specs.Lists.FedNames.{RunIsNamedFed}
-use Rattle.sbp_world.specs.Lists.FedRuns.{RunIsFed, own_reads}
-use Rattle.sbp_world.specs.Lists.AheadOrbs.{AllAhead}
-use Rattle.sbp_world.specs.Lists.OwnSince.{AllAwaited}
 use Rattle.sbp_world.proofs.Lists.FedReads.{IsTurned}
 use Rattle.sbp_world.proofs.Lists.FedRuns.{reads as reads_of, run_fed, turned, which_is}
 use Rattle.sbp_world.proofs.Lists.FedSteps.{Hears}

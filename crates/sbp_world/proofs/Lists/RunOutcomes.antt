@@ -1,52 +1,18 @@
 -- A run that the target tells of, behind the packet that it got: it is on the unit of a live login of the initiator that has the place; and of an initiator that
 -- injected no packets its outcome is what the plain disk allows for the request of its ORB.
-use Rattle.std.proofs.Common.{arith, ◌≡◌, ◌∙◌, refl, sym, ap, subst, ℕ, suc, ◌+◌, ◌<◌, ◌≤◌, Bool, true, false, List, ◌∷◌, Option, Some, None, IfSome, IsSome, IsSomeAnd}
-use Rattle.std.specs.Prelude.{unwrap_or}
-use Rattle.std.proofs.lemmas.Option.{same_Some}
-use Rattle.login_table.specs.declared.login.Login.{Login}
-use Rattle.login_table.specs.Table.{Table, find, is_live, is_of_node}
+use Rattle.sbp_world.proofs.Words.Std.{arith, ◌≡◌, ◌∙◌, refl, sym, ap, subst, ℕ, suc, ◌+◌, ◌<◌, ◌≤◌, Bool, true, false, List, ◌∷◌, Option, Some, None, IfSome, IsSome, IsSomeAnd, unwrap_or, same_Some}
+use Rattle.sbp_world.proofs.Words.Wire.{check_of, Moment, said, Terms, terms, Note}
+use Rattle.sbp_world.proofs.Words.Target.{Login, Table, find, is_live, is_of_node, Outcome, Disk, Told, check_in, PlainDisk, Phase, AgentStep, Which, Ahead, Main, Machine, is_ahead, advanced, ahead_step, quiet, reply_step, served, told_or, Progress, OrbList, ahead_beside, main_beside, IsRun, Keeps, heard_by, desk_at, login_at, answer_in, plain_in}
+use Rattle.sbp_world.proofs.Words.Initiator.{Answer, payload_of}
+use Rattle.sbp_world.proofs.Words.Laws.{unit_at, RunsOn, login_place, command_at, linked, slot_at, id_for, known_at, place_on, plain_of, target_at, Request, ends, request_at}
+use Rattle.sbp_world.proofs.Words.World.{holder, Scene, WorldState, has_list, request_of, LoginAt, OutcomeAt, orbs, IsFor, IsOpenAt, initiator_in, is_open_at}
 use Rattle.login_table.proofs.Searching.{within}
-use Rattle.orb_layout.specs.Replies.{Answer, payload_of}
-use Rattle.rbc_disk.specs.declared.command.Outcome.{Outcome}
-use Rattle.rbc_disk.specs.Disk.{Disk}
-use Rattle.rbc_disk.specs.Runs.{Told, check_in}
-use Rattle.rbc_disk.specs.Units.{PlainDisk}
-use Rattle.command_agent.specs.declared.phase.Phase.{Phase}
 use Rattle.command_agent.specs.declared.phase.Phase.TheVariants as phases
-use Rattle.command_agent.specs.declared.step.AgentStep.{AgentStep}
-use Rattle.command_agent.specs.declared.step.Which.{Which}
-use Rattle.command_agent.specs.declared.step.Which.TheVariants.{Ahead, Main}
-use Rattle.command_agent.specs.Machine.{Machine, is_ahead}
-use Rattle.command_agent.specs.Steps.{advanced, ahead_step, quiet, reply_step, served, told_or}
-use Rattle.agent_laws.specs.Along.Along.{Progress}
-use Rattle.agent_laws.specs.Along.Lists.{OrbList}
-use Rattle.agent_laws.specs.Along.Requests.{ahead_beside, main_beside}
-use Rattle.agent_laws.specs.Along.Steps.{IsRun, Keeps, heard_by}
 use Rattle.agent_laws.proofs.Along.Writes.{keeps_along}
-use Rattle.sbp_bus.specs.Words.{check_of}
-use Rattle.sbp_journal.specs.Run.{Moment, said}
-use Rattle.sbp_journal.specs.Wire.{Terms, terms}
-use Rattle.sbp_journal.specs.declared.note.Note.{Note}
 use Rattle.sbp_journal.specs.declared.note.Note.TheVariants as notes
-use Rattle.sbp_laws.specs.DiskFold.{unit_at}
-use Rattle.sbp_laws.specs.ExecutionLaw.{RunsOn, login_place}
-use Rattle.sbp_laws.specs.Lists.{command_at, linked, slot_at}
-use Rattle.sbp_laws.specs.Packets.{id_for}
-use Rattle.sbp_laws.specs.Targets.{known_at, place_on, plain_of, target_at}
-use Rattle.sbp_laws.specs.Terms.{Request, ends, request_at}
-use Rattle.sbp_target.specs.Nodes.{desk_at, login_at}
-use Rattle.sbp_target.specs.Receiving.{answer_in}
-use Rattle.sbp_target.specs.Replies.{plain_in}
-use Rattle.sbp_world.specs.Telling.{holder}
-use Rattle.sbp_world.specs.Worlds.{Scene, WorldState}
-use Rattle.sbp_world.specs.Agents.Alike.{has_list}
 use Rattle.sbp_world.proofs.Agents.Management.Still.{gets_clock, hist}
 use Rattle.sbp_world.proofs.Agents.UnitsRun.{live_login}
 use Rattle.sbp_world.proofs.Agents.UnitsTold.{AreFound, HasLogin, IsFoundBy, Same, got_same}
-use Rattle.sbp_world.specs.Hosts.Orbs.{request_of}
-use Rattle.sbp_world.specs.Lists.Execution.{LoginAt, OutcomeAt}
-use Rattle.sbp_world.specs.Lists.Lists.{orbs}
-use Rattle.sbp_world.specs.Lists.Needs.{IsFor, IsOpenAt, initiator_in, is_open_at}
 use Rattle.sbp_world.proofs.Lists.Lists.{laid}
 use Rattle.sbp_world.proofs.Lists.FedPlaces.{HasHeard}
 use Rattle.sbp_world.proofs.Lists.OrbPlaces.{HasReads}

@@ -1,34 +1,13 @@
 -- A run that the target tells of is of an ORB that a response brought of the place of its ORB: that of its append.
-use Rattle.std.proofs.Common.{◌≡◌, ◌∙◌, sym, ap, subst, ℕ, ◌<◌, ◌==◌, ◌&&◌, is_some, nat_lt, Bool, false, List, ◌∷◌, Option, Some, None, IsSomeAnd}
-use Rattle.std.proofs.lemmas.Option.{same_Some}
+use Rattle.sbp_world.proofs.Words.Std.{◌≡◌, ◌∙◌, sym, ap, subst, ℕ, ◌<◌, ◌==◌, ◌&&◌, is_some, nat_lt, Bool, false, List, ◌∷◌, Option, Some, None, IsSomeAnd, same_Some}
+use Rattle.sbp_world.proofs.Words.Wire.{check_of, Moment, said, Cmd, Note}
+use Rattle.sbp_world.proofs.Words.Target.{AgentStep, Machine, reply_step, Disk, Told, desk_at, plain_in, answer_in, heard_by}
+use Rattle.sbp_world.proofs.Words.Initiator.{start_of, CommandOrb}
+use Rattle.sbp_world.proofs.Words.Laws.{address_of, IsAsAppended, slot_at, Request, request_at}
+use Rattle.sbp_world.proofs.Words.World.{holder, Scene, WorldState, request_of, ReadAt, RunIsRead, IsOrbOf, IsBrought}
 use Rattle.bus_memory.specs.declared.window.Window.TheVariants as windows
-use Rattle.bus_memory.specs.Windows.{start as start_of}
-use Rattle.command_agent.specs.declared.step.AgentStep.{AgentStep}
-use Rattle.command_agent.specs.Machine.{Machine}
-use Rattle.command_agent.specs.Steps.{reply_step}
-use Rattle.orb_layout.specs.declared.command.CommandOrb.{CommandOrb}
-use Rattle.rbc_disk.specs.Disk.{Disk}
-use Rattle.rbc_disk.specs.Runs.{Told}
-use Rattle.sbp_bus.specs.Words.{check_of}
-use Rattle.sbp_journal.specs.Run.{Moment, said}
-use Rattle.sbp_journal.specs.declared.event.Cmd.{Cmd}
-use Rattle.sbp_journal.specs.declared.note.Note.{Note}
 use Rattle.sbp_journal.specs.declared.note.Note.TheVariants as notes
-use Rattle.sbp_laws.specs.CarriedBytes.{address_of}
-use Rattle.sbp_laws.specs.CarriedLaw.{IsAsAppended}
-use Rattle.sbp_laws.specs.Lists.{slot_at}
-use Rattle.sbp_laws.specs.Terms.{Request, request_at}
-use Rattle.sbp_target.specs.Nodes.{desk_at}
-use Rattle.sbp_target.specs.Replies.{plain_in}
-use Rattle.sbp_target.specs.Receiving.{answer_in}
-use Rattle.sbp_world.specs.Telling.{holder}
-use Rattle.sbp_world.specs.Worlds.{Scene, WorldState}
 use Rattle.sbp_world.proofs.Agents.Management.Still.{hist}
-use Rattle.sbp_world.specs.Hosts.Orbs.{request_of}
-use Rattle.agent_laws.specs.Along.Steps.{heard_by}
-use Rattle.sbp_world.specs.Lists.CarriedRuns.{ReadAt, RunIsRead}
-use Rattle.sbp_world.specs.Lists.Lists.{IsOrbOf}
-use Rattle.sbp_world.specs.Lists.OrbReads.{IsBrought}
 use Rattle.sbp_world.proofs.Lists.OrbFolds.{Brings}
 use Rattle.sbp_world.proofs.Lists.OrbReading.{brought_more, reads_more}
 use Rattle.sbp_world.proofs.Lists.OrbSteps.{Reads, Stepped, reply_steps}

@@ -1,30 +1,16 @@
 -- The places between two turns of a run: what is known of every run at each of them.
-use Rattle.std.proofs.Common.{◌≡◌, subst, ℕ, ◌<◌, ◌≤◌, List, ◌∷◌, ◌++◌, map, length, Option, Some, None}
-use Rattle.rbc_disk.specs.Runs.{Told}
-use Rattle.sbp_journal.specs.declared.event.Event.{Event}
+use Rattle.sbp_world.proofs.Words.Std.{◌≡◌, subst, ℕ, ◌<◌, ◌≤◌, List, ◌∷◌, ◌++◌, map, length, Option, Some, None}
+use Rattle.sbp_world.proofs.Words.Wire.{Event, Cmd, Moment, asked, said}
+use Rattle.sbp_world.proofs.Words.Target.{Told}
+use Rattle.sbp_world.proofs.Words.Laws.{command_at, orb, prepared_in}
+use Rattle.sbp_world.proofs.Words.World.{history_of, ready_logins, Run, after, beginning, MayAll, after_all, Scene, WorldState, begun, initiator_at, DeliversMore, AreAgentsAt, AreAskedAt, AreHeldAt, IsDelivering, AllBring, NoneInjected, AreRows, IsRun, more_deliveries}
 use Rattle.sbp_journal.specs.declared.event.Event.TheVariants as events
-use Rattle.sbp_journal.specs.declared.event.Cmd.{Cmd}
-use Rattle.sbp_journal.specs.Run.{Moment, asked, said}
-use Rattle.sbp_laws.specs.Lists.{command_at, orb, prepared_in}
-use Rattle.sbp_world.specs.Histories.{history_of}
-use Rattle.sbp_world.specs.Making.{ready_logins}
-use Rattle.sbp_world.specs.Runs.{Run, after, beginning}
-use Rattle.sbp_world.specs.Settling.{MayAll, after_all}
-use Rattle.sbp_world.specs.Worlds.{Scene, WorldState, begun, initiator_at}
 use Rattle.sbp_world.proofs.Wire.Starts.{laws_of}
-use Rattle.sbp_world.specs.Agents.Management.Terms.{DeliversMore}
 use Rattle.sbp_world.proofs.Agents.Management.Holding.{Holding}
 use Rattle.sbp_world.proofs.Agents.Management.Still.{hist}
-use Rattle.sbp_world.specs.Agents.Agents.{AreAgentsAt}
-use Rattle.sbp_world.specs.Agents.AskedRuns.{AreAskedAt}
-use Rattle.sbp_world.specs.Agents.Holders.{AreHeldAt}
 use Rattle.sbp_world.proofs.Agents.AskedRuns.{asked_between_law, asked_run_law}
 use Rattle.sbp_world.proofs.Agents.CrewRuns.{agents_between_law, agents_run_law}
 use Rattle.sbp_world.proofs.Agents.Holders.{holders_between_law, holders_law}
-use Rattle.sbp_world.specs.Hosts.Answering.{IsDelivering}
-use Rattle.sbp_world.specs.Hosts.Carrying.{AllBring, NoneInjected}
-use Rattle.sbp_world.specs.Hosts.Fits.{AreRows}
-use Rattle.sbp_world.specs.Hosts.Runs.{IsRun, more_deliveries}
 use Rattle.sbp_world.proofs.Hosts.ByteReads.{filled, places_length}
 use Rattle.sbp_world.proofs.Hosts.ByteRuns.{bytes_between, bytes_of_runs}
 use Rattle.sbp_world.proofs.Hosts.Carried.{between_runs, of_runs}

@@ -1,53 +1,18 @@
 -- What the target tells in a call of a run: none; or, as it goes on by the answer to a transaction of an agent, first of all the one run of the command of that agent's
 -- present ORB, as the medium may have told it, and of no run behind it.
-use Rattle.std.proofs.Common.{arith, ◌≡◌, ◌∙◌, refl, sym, ap, subst, ℕ, zero, suc, ◌+◌, ◌<◌, nat_lt, Bool, true, false, cond, List, [], ◌∷◌, ◌++◌, length, Option, Some, None, Result, Ok, Err}
-use Rattle.std.specs.Prelude.{slice_set}
-use Rattle.std.proofs.lemmas.List.{get_or-set_same}
-use Rattle.async_packet.specs.Labels.{LabelParts}
-use Rattle.async_packet.specs.Packet.{Packet, header_in}
-use Rattle.label_table.specs.declared.reply.Stale.{Stale}
-use Rattle.label_table.specs.Layer.{Finding, Layer, expiring_step, judging_step, of_again, of_generation, of_grammar, of_label, of_request, of_response}
-use Rattle.login_table.specs.declared.login.Login.{Login}
-use Rattle.login_table.specs.Sound.{IsSound}
-use Rattle.login_table.specs.Table.{Table}
+use Rattle.sbp_world.proofs.Words.Std.{arith, ◌≡◌, ◌∙◌, refl, sym, ap, subst, ℕ, zero, suc, ◌+◌, ◌<◌, nat_lt, Bool, true, false, cond, List, [], ◌∷◌, ◌++◌, length, Option, Some, None, Result, Ok, Err, slice_set, get_or-set_same}
+use Rattle.sbp_world.proofs.Words.Wire.{LabelParts, Packet, header_in, Stale, Finding, Layer, expiring_step, judging_step, of_again, of_generation, of_grammar, of_label, of_request, of_response, Sent, Judged, Side, empty_outbox}
+use Rattle.sbp_world.proofs.Words.Target.{Login, IsSound, Table, Decision, Effect, ManagerStep, Outcome, Disk, disk_at, Held, Told, left_by, told_in, PlainDisk, AgentStep, Which, Machine, MayRun, MayTell, reply_step, if_served, Desk, Purpose, follow, new_desk, taken, which_in, cut_placed, decided_by, effect_by, failed_by, manage, managed_in, managed_with, place_in, tell_left, with_manager, NodeState, Scene, desk_at, login_at, scene, with_desk, TellsAt, TellsIn, answer_in, concluded, expired, expired_in, judged_scene, received, received_as, timed_out, with_layer, TellsBy, Whole, advance, advanced_with, announced_by, came, changed_by, follow_all, plain_in, step_replied, replied_by, replied_to, replied_with, served_login, stage, whole, orb_of, tell_ran, clear_from, clear_unit, cut_all}
+use Rattle.sbp_world.proofs.Words.Initiator.{Answer, Expired}
+use Rattle.sbp_world.proofs.Words.World.{faults_after, judged_target, whole_of}
 use Rattle.login_table.proofs.Searching.{within}
-use Rattle.mgmt_agent.specs.declared.decision.Decision.{Decision}
-use Rattle.mgmt_agent.specs.declared.decision.Effect.{Effect}
 use Rattle.mgmt_agent.specs.declared.decision.Effect.TheVariants as effects
-use Rattle.mgmt_agent.specs.declared.decision.ManagerStep.{ManagerStep}
 use Rattle.mgmt_agent.specs.Machine as management
-use Rattle.orb_layout.specs.Replies.{Answer, Expired}
-use Rattle.packet_store.specs.declared.sent.Sent.{Sent}
-use Rattle.rbc_disk.specs.declared.command.Outcome.{Outcome}
-use Rattle.rbc_disk.specs.Disk.{Disk, disk_at}
-use Rattle.rbc_disk.specs.Held.{Held}
-use Rattle.rbc_disk.specs.Runs.{Told, left_by, told_in}
-use Rattle.rbc_disk.specs.Units.{PlainDisk}
-use Rattle.command_agent.specs.declared.step.AgentStep.{AgentStep}
-use Rattle.command_agent.specs.declared.step.Which.{Which}
-use Rattle.command_agent.specs.Machine.{Machine}
-use Rattle.command_agent.specs.Runs.{MayRun, MayTell}
-use Rattle.command_agent.specs.Steps.{reply_step}
 use Rattle.sbp_journal.specs.declared.cause.CutCause.TheVariants as cuts
-use Rattle.sbp_journal.specs.declared.cause.Judged.{Judged}
 use Rattle.sbp_journal.specs.declared.cause.Judged.TheVariants as judgements
-use Rattle.sbp_journal.specs.declared.side.Side.{Side}
 use Rattle.sbp_journal.specs.declared.side.Side.TheVariants as sides
-use Rattle.sbp_journal.specs.Outgoings.{empty_outbox}
-use Rattle.target_base.specs.Logins.{if_served}
-use Rattle.sbp_target.specs.declared.desk.Desk.{Desk}
-use Rattle.sbp_target.specs.declared.purpose.Purpose.{Purpose}
 use Rattle.sbp_target.specs.declared.purpose.Purpose.TheVariants as purposes
-use Rattle.sbp_target.specs.Agents.{follow}
-use Rattle.sbp_target.specs.Desks.{new_desk, taken, which_in}
-use Rattle.sbp_target.specs.Management.{cut_placed, decided_by, effect_by, failed_by, manage, managed_in, managed_with, place_in, tell_left, with_manager}
-use Rattle.sbp_target.specs.Nodes.{NodeState, Scene, desk_at, login_at, scene, with_desk}
-use Rattle.sbp_target.specs.Receiving.{TellsAt, TellsIn, answer_in, concluded, expired, expired_in, judged_scene, received, received_as, timed_out, with_layer}
-use Rattle.sbp_target.specs.Replies.{TellsBy, Whole, advance, advanced_with, announced_by, came, changed_by, follow_all, plain_in, replied as step_replied, replied_by, replied_to, replied_with, served_login, stage, whole}
 use Rattle.sbp_target.specs.Serving.{request_step}
-use Rattle.sbp_target.specs.Telling.{orb_of, tell_ran}
-use Rattle.sbp_target.specs.Units.{clear_from, clear_unit, cut_all}
-use Rattle.sbp_world.specs.Delivering.{faults_after, judged_target, whole_of}
 use Rattle.sbp_world.specs.Delivering as delivering
 use Rattle.sbp_world.proofs.Agents.UnitsKept.{In, Keeps, announces_by, answers, asks_manager, cuts_all, cuts_placed, expires_agent, failed_tells, follows, keeps_cuts, keeps_steps, notes_tell, request_tells}
 use Rattle.sbp_world.proofs.Agents.UnitsTold.{AllSpare, Spares}

@@ -1,20 +1,14 @@
 -- How ORBs run and end by the law of lists: an ORB behind those that have ended did not run, but for the next one; and the order law is a part of it.
-use Rattle.std.proofs.Common.{◌≡◌, ◌∙◌, refl, sym, ap, subst, ◌<◌, ℕ, suc, nat_eq, Bool, true, false, cond, List, [], ◌∷◌, Option, Some, None, arith}
-use Rattle.std.proofs.lemmas.Bool.Decides.{nat_tests}
-use Rattle.orb_layout.specs.declared.status.StatusKind.{StatusKind}
+use Rattle.sbp_world.proofs.Words.Std.{◌≡◌, ◌∙◌, refl, sym, ap, subst, ◌<◌, ℕ, suc, nat_eq, Bool, true, false, cond, List, [], ◌∷◌, Option, Some, None, arith, nat_tests}
+use Rattle.sbp_world.proofs.Words.Wire.{Moment, said}
+use Rattle.sbp_world.proofs.Words.Target.{Sense, Outcome, is_good, EndsBy, Progress}
+use Rattle.sbp_world.proofs.Words.Initiator.{StatusKind}
+use Rattle.sbp_world.proofs.Words.Laws.{MayEndWith, OrderAt, OrderLaw, ends, ran_status, runs, status_of}
+use Rattle.sbp_world.proofs.Words.World.{ListsAt, RunsAt, RunsLaw, UnrunLaw}
 use Rattle.orb_layout.specs.declared.status.StatusKind.TheVariants as kinds
-use Rattle.rbc_command.specs.declared.sense.Sense.{Sense}
-use Rattle.rbc_disk.specs.declared.command.Outcome.{Outcome}
 use Rattle.rbc_disk.specs.declared.command.Outcome.TheVariants as outcomes
-use Rattle.agent_laws.specs.Answers.{is_good}
-use Rattle.agent_laws.specs.Wire.{EndsBy}
-use Rattle.agent_laws.specs.Along.Along.{Progress}
-use Rattle.sbp_journal.specs.Run.{Moment, said}
 use Rattle.sbp_journal.specs.declared.note.Note.TheVariants as notes
-use Rattle.sbp_laws.specs.ExecutionLaw.{MayEndWith}
-use Rattle.sbp_laws.specs.OrderLaw.{OrderAt, OrderLaw}
-use Rattle.sbp_laws.specs.Terms.{ends, ran_status, runs, status_of}
-use Rattle.sbp_world.specs.Lists.Running.{ListsAt, ListsLaw, RunsAt, RunsLaw, UnrunLaw}
+use Rattle.sbp_world.specs.Lists.Running.{ListsLaw}
 use Rattle.sbp_world.proofs.Lists.Passing.{PassAt, PassLaw, HasRun}
 use Rattle.sbp_world.proofs.Common.{itself}
 

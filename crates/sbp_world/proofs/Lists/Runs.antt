@@ -1,27 +1,12 @@
 -- In a run in which lists were open as they should be before a moment, the agents of the target are along the lists of the initiators there, and the order law is
 -- kept; and where they are so at the moment too, each read of an agent was sent when the ORB of its slot had been appended.
-use Rattle.std.proofs.Common.{arith, ◌≡◌, ◌∙◌, refl, sym, ap, subst, ℕ, suc, ◌+◌, ◌^◌, ◌<◌, ◌≤◌, Bool, true, false, List, [], ◌∷◌, ◌++◌, map, length, Option, Some, None}
-use Rattle.std.specs.Prelude.{replicate, slice_index_or}
-use Rattle.std.proofs.lemmas.List.{get_or-replicate}
-use Rattle.bus_transactions.specs.May.{is_reset}
-use Rattle.rbc_disk.specs.Runs.{Told}
-use Rattle.sbp_bus.specs.Packets.{end_note}
-use Rattle.sbp_journal.specs.declared.event.Event.{Event}
+use Rattle.sbp_world.proofs.Words.Std.{arith, ◌≡◌, ◌∙◌, refl, sym, ap, subst, ℕ, suc, ◌+◌, ◌^◌, ◌<◌, ◌≤◌, Bool, true, false, List, [], ◌∷◌, ◌++◌, map, length, Option, Some, None, slice_index_or, get_or-replicate}
+use Rattle.sbp_world.proofs.Words.Wire.{is_reset, end_note, Event, Note, Moment, asked, said}
+use Rattle.sbp_world.proofs.Words.Target.{Told, Desk, new_desk}
+use Rattle.sbp_world.proofs.Words.World.{history_of, moments_behind, MayHappen, happens, new_world, ready_logins, AreEntries, Entry, Run, after, beginning, MayAll, after_all, delivered_at, delivered_next, is_settled, lowest, holder, AreLines, Scene, WorldState, begun, initiator_at, with_note, without_notes, DeliversMore, Lasts, IsRun, more_deliveries, IsHost, has_list, IsCalm, OpenAfter, OpenBefore, OpenBehind, OpenIn, OpenLists, OpenWhile, machine_at, WasHad, AreOpened, OpensLaw, WasOpened, Unrun}
+use Rattle.std.specs.Prelude.{replicate}
 use Rattle.sbp_journal.specs.declared.event.Event.TheVariants as events
-use Rattle.sbp_journal.specs.declared.note.Note.{Note}
-use Rattle.sbp_journal.specs.Run.{Moment, asked, said}
-use Rattle.sbp_target.specs.declared.desk.Desk.{Desk}
-use Rattle.sbp_target.specs.Desks.{new_desk}
-use Rattle.sbp_world.specs.Histories.{history_of, moments_behind}
-use Rattle.sbp_world.specs.Lines.{MayHappen, happens}
-use Rattle.sbp_world.specs.Making.{new_world, ready_logins}
-use Rattle.sbp_world.specs.Runs.{AreEntries, Entry, Run, after, beginning}
-use Rattle.sbp_world.specs.Settling.{MayAll, after_all, delivered_at, delivered_next, is_settled, lowest}
-use Rattle.sbp_world.specs.Telling.{holder}
-use Rattle.sbp_world.specs.Wire.Lines.{AreLines}
-use Rattle.sbp_world.specs.Worlds.{Scene, WorldState, begun, initiator_at, with_note, without_notes}
 use Rattle.sbp_world.proofs.Wire.ToldBytes.{happened_fits}
-use Rattle.sbp_world.specs.Agents.Management.Terms.{DeliversMore}
 use Rattle.sbp_world.proofs.Agents.Management.Begins.{first_holds, first_past}
 use Rattle.sbp_world.proofs.Agents.Management.Holding.{Holding, good_of}
 use Rattle.sbp_world.proofs.Agents.Management.Lines.{all_heard as all_hold, line_holds, opens}
@@ -29,17 +14,9 @@ use Rattle.sbp_world.proofs.Agents.Management.Runs.{no_repeats, not_reset}
 use Rattle.sbp_world.proofs.Agents.Management.Still.{hist}
 use Rattle.sbp_world.proofs.Agents.Holders.{are_held, seats_after}
 use Rattle.sbp_world.proofs.Agents.Seating.{opened as seats_opened}
-use Rattle.sbp_world.specs.Hosts.Lasting.{Lasts}
-use Rattle.sbp_world.specs.Hosts.Runs.{IsRun, more_deliveries}
-use Rattle.sbp_world.specs.Hosts.Worlds.{IsHost}
 use Rattle.sbp_world.proofs.Hosts.Lasting.{lasting_law}
 use Rattle.sbp_world.proofs.Hosts.Runs.{count_after, count_between, run_law, are_told}
 use Rattle.sbp_world.proofs.Hosts.StepLaws.{step_law}
-use Rattle.sbp_world.specs.Agents.Alike.{has_list}
-use Rattle.sbp_world.specs.Lists.Needs.{IsCalm, OpenAfter, OpenBefore, OpenBehind, OpenIn, OpenLists, OpenWhile, machine_at}
-use Rattle.sbp_world.specs.Lists.CutLists.{WasHad}
-use Rattle.sbp_world.specs.Lists.Opens.{AreOpened, OpensLaw, WasOpened}
-use Rattle.sbp_world.specs.Lists.Running.{Unrun}
 use Rattle.sbp_world.proofs.Lists.Awaited.{line_starts}
 use Rattle.sbp_world.proofs.Lists.Bringing.{all_brought}
 use Rattle.sbp_world.proofs.Lists.Calm.{asked_calm, calm_before}

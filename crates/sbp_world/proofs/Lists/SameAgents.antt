@@ -1,28 +1,13 @@
 -- Where a step of an agent is told, a request leaves, and other logins hear of a disc, the agents stay the same. So what is kept by the same agents with
 -- the same sides is kept by all that follows a step, where a loss keeps it, and by all that hears of a disc, where what is told of it does.
-use Rattle.std.proofs.Common.{arith, ◌≡◌, refl, ◌∙◌, ap, ℕ, ◌+◌, ◌<◌, ◌≤◌, nat_eq, Bool, true, false, cond, length, Option, Some, None}
-use Rattle.std.proofs.lemmas.Bool.Decides.{nat_tests}
+use Rattle.sbp_world.proofs.Words.Std.{arith, ◌≡◌, refl, ◌∙◌, ap, ℕ, ◌+◌, ◌<◌, ◌≤◌, nat_eq, Bool, true, false, cond, length, Option, Some, None, nat_tests}
+use Rattle.sbp_world.proofs.Words.Wire.{LabelParts, Body, block_write, Layer, OutboxState}
+use Rattle.sbp_world.proofs.Words.Target.{AgentStep, Which, Login, block, Desk, Purpose, ahead_sent, dropped_by, follow, main_sent, noted, promoted_by, sent_to, without_ahead, new_desk, Announced, Behind, asks_ahead, asks_main, loses, lost_at, pushes, stay, withholds, NodeState, Scene, desk_at, scene, with_desk, request_step, with_side, announce_from, unsolicited_by, unsolicited_from}
+use Rattle.sbp_world.proofs.Words.Initiator.{FailCause}
 use Rattle.std.proofs.lemmas.List.{length-set}
 use Rattle.label_table.proofs.Owned.{set_at}
-use Rattle.async_packet.specs.Labels.{LabelParts}
-use Rattle.command_agent.specs.declared.step.AgentStep.{AgentStep}
-use Rattle.command_agent.specs.declared.step.Which.{Which}
-use Rattle.label_table.specs.Bodies.{Body, block_write}
-use Rattle.label_table.specs.Layer.{Layer}
-use Rattle.login_table.specs.declared.login.Login.{Login}
-use Rattle.media_bay.specs.Unsolicited.{block}
-use Rattle.orb_layout.specs.declared.ask.FailCause.{FailCause}
 use Rattle.sbp_journal.specs.declared.side.Side.TheVariants as sides
-use Rattle.sbp_journal.specs.Outgoings.{OutboxState}
-use Rattle.sbp_target.specs.declared.desk.Desk.{Desk}
-use Rattle.sbp_target.specs.declared.purpose.Purpose.{Purpose}
 use Rattle.sbp_target.specs.declared.purpose.Purpose.TheVariants as purposes
-use Rattle.sbp_target.specs.Agents.{ahead_sent, dropped_by, follow, main_sent, noted, promoted_by, sent_to, without_ahead}
-use Rattle.sbp_target.specs.Desks.{new_desk}
-use Rattle.sbp_target.specs.Histories.Moves.{Announced, Behind, asks_ahead, asks_main, loses, lost_at, pushes, stay, withholds}
-use Rattle.sbp_target.specs.Nodes.{NodeState, Scene, desk_at, scene, with_desk}
-use Rattle.sbp_target.specs.Sending.{request_step, with_side}
-use Rattle.sbp_target.specs.Units.{announce_from, unsolicited_by, unsolicited_from}
 use Rattle.sbp_target.proofs.Histories.Moved.{announce_from_moves, behind_moves}
 use Rattle.sbp_target.proofs.Histories.Views.{kept, requests}
 

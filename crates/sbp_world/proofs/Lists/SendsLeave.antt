@@ -1,25 +1,15 @@
 -- The packets that are sent at the end of a turn leave who has the places of the target, the lists that its pointers name, and each agent that is out of RESET out of it. So the open list of an initiator
 -- before such a packet is that of its one agent out of RESET behind the turn.
-use Rattle.std.proofs.Common.{arith, ◌≡◌, ◌∙◌, refl, ap, ◌≤◌, ℕ, zero, suc, ◌+◌, ◌==◌, ◌&&◌, nat_eq, Bool, true, false, cond, List, [], ◌∷◌, ◌++◌, map, length, Option, Some, None}
-use Rattle.std.proofs.lemmas.Bool.Decides.{nat_tests}
-use Rattle.std.specs.Prelude.{position, slice_set}
-use Rattle.command_agent.specs.declared.step.Which.TheVariants.{Ahead, Main}
+use Rattle.sbp_world.proofs.Words.Std.{arith, ◌≡◌, ◌∙◌, refl, ap, ◌≤◌, ℕ, zero, suc, ◌+◌, ◌==◌, ◌&&◌, nat_eq, Bool, true, false, cond, List, [], ◌∷◌, ◌++◌, map, length, Option, Some, None, nat_tests, position, slice_set}
+use Rattle.sbp_world.proofs.Words.Wire.{Moment, said, Part, part_of, request, response, Terms, terms, Note}
+use Rattle.sbp_world.proofs.Words.Target.{Ahead, Main, Table, place_at, Disk}
+use Rattle.sbp_world.proofs.Words.Initiator.{Nothing}
+use Rattle.sbp_world.proofs.Words.Laws.{list_taken, open_among, access_in_bytes, id_for, Agent, Reply, Target, agent_at, agent_over, closed, initiator_at, initiator_from, initiator_with, is_nothing, is_write_access, main_lost, moved, node_in, over, plain_for, reply_of, sends_of, sent_as, sent_for, taken_on, target_at, wants, wants_it, lists}
+use Rattle.sbp_world.proofs.Words.World.{agent_in}
 use Rattle.command_agent.specs.Steps as steps
-use Rattle.login_table.specs.Table.{Table, place_at}
-use Rattle.orb_layout.specs.declared.ask.Ask.TheVariants.{Nothing}
 use Rattle.orb_layout.specs.declared.ask.FailCause.TheVariants as causes
-use Rattle.rbc_disk.specs.Disk.{Disk}
-use Rattle.sbp_journal.specs.Run.{Moment, said}
-use Rattle.sbp_journal.specs.Transactions.{Part, no_packet, part_of, request, response}
-use Rattle.sbp_journal.specs.Wire.{Terms, terms}
-use Rattle.sbp_journal.specs.declared.note.Note.{Note}
+use Rattle.sbp_journal.specs.Transactions.{no_packet}
 use Rattle.sbp_journal.specs.declared.note.Note.TheVariants as notes
-use Rattle.sbp_laws.specs.Agents.{list_taken}
-use Rattle.sbp_laws.specs.CarriedBytes.{open_among}
-use Rattle.sbp_laws.specs.Packets.{access_in_bytes, id_for}
-use Rattle.sbp_laws.specs.Targets.{Agent, Reply, Target, agent_at, agent_over, closed, initiator_at, initiator_from, initiator_with, is_nothing, is_write_access, main_lost, moved, node_in, over, plain_for, reply_of, sends_of, sent_as, sent_for, taken_on, target_at, wants, wants_it}
-use Rattle.sbp_laws.specs.Terms.{lists}
-use Rattle.sbp_world.specs.Agents.Crews.{agent_in}
 use Rattle.sbp_world.proofs.Lists.ManageSends.{sent_terms}
 use Rattle.sbp_world.proofs.Lists.OpenCuts.{is_up}
 use Rattle.sbp_world.proofs.Lists.RepliesStayUp.{lost_up, reply_up}

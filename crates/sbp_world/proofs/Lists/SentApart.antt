@@ -1,41 +1,16 @@
 -- A request of the target for the page table or the buffer of a slot is no agent's read ahead, and not the management operation's.
-use Rattle.std.proofs.Common.{arith, ◌≡◌, ◌∙◌, refl, sym, ap, subst, ◌<◌, ℕ, suc, Bool, true, false, List, length, Option, Some, None}
-use Rattle.std.proofs.lemmas.Option.{same_Some}
-use Rattle.bus_memory.specs.declared.window.Window.{Window}
+use Rattle.sbp_world.proofs.Words.Std.{arith, ◌≡◌, ◌∙◌, refl, sym, ap, subst, ◌<◌, ℕ, suc, Bool, true, false, List, length, Option, Some, None, same_Some}
+use Rattle.sbp_world.proofs.Words.Wire.{IsAwaited, transaction, Access, Moment, Transaction, Terms, terms}
+use Rattle.sbp_world.proofs.Words.Target.{ahead_ask, ReadAhead, Ahead, Main, source_in, Operation, Disk}
+use Rattle.sbp_world.proofs.Words.Initiator.{Window, window_at, OrbPointer, At, Null}
+use Rattle.sbp_world.proofs.Words.Laws.{access_at, receiver_in, agent_at, over, target_at, EachMoment}
+use Rattle.sbp_world.proofs.Words.World.{Stands, WorldState, IsAccessFor, Awaits, HasRequest, AreAlong, WasAsked, IsInSlot, IsCalm, IsOpenAt, OpenLists, initiator_in, machine_at, IsOwnRead, ReadsData, data_slot, BasedAt, IsInAPlace, AreShort}
 use Rattle.bus_memory.specs.declared.window.Window.TheVariants as windows
-use Rattle.bus_memory.specs.Windows.{window_at}
-use Rattle.bus_transactions.specs.Reached.{IsAwaited}
-use Rattle.bus_transactions.specs.Wire.{transaction}
 use Rattle.bus_transactions.proofs.Reaches.{goes_on}
-use Rattle.agent_laws.specs.Along.Requests.{ahead_ask}
-use Rattle.command_agent.specs.declared.phase.ReadAhead.{ReadAhead}
 use Rattle.command_agent.specs.declared.phase.ReadAhead.TheVariants as aheads
-use Rattle.command_agent.specs.declared.step.Which.TheVariants.{Ahead, Main}
-use Rattle.mgmt_agent.specs.Machine.{Machine, source_in}
-use Rattle.mgmt_agent.specs.declared.operation.Operation.{Operation}
-use Rattle.orb_layout.specs.declared.pointer.OrbPointer.{OrbPointer}
-use Rattle.orb_layout.specs.declared.pointer.OrbPointer.TheVariants.{At, Null}
-use Rattle.rbc_disk.specs.Disk.{Disk}
-use Rattle.sbp_journal.specs.Addresses.{Access}
-use Rattle.sbp_journal.specs.Run.{Moment}
-use Rattle.sbp_journal.specs.Transactions.{Transaction}
-use Rattle.sbp_journal.specs.Wire.{Terms, terms}
-use Rattle.sbp_laws.specs.Packets.{access_at, receiver_in}
-use Rattle.sbp_laws.specs.Targets.{agent_at, over, target_at}
-use Rattle.sbp_laws.specs.Turns.{EachMoment}
-use Rattle.sbp_world.specs.Wire.Wires.{Stands}
-use Rattle.sbp_world.specs.Worlds.{WorldState}
-use Rattle.sbp_world.specs.Agents.AskedRuns.{IsAccessFor}
-use Rattle.sbp_world.specs.Agents.Management.Terms.{Awaits, HasRequest}
+use Rattle.mgmt_agent.specs.Machine.{Machine}
 use Rattle.sbp_world.proofs.Agents.Management.Holding.{Holding, past_terms}
 use Rattle.sbp_world.proofs.Agents.Management.Still.{hist}
-use Rattle.sbp_world.specs.Lists.Along.{AreAlong}
-use Rattle.sbp_world.specs.Lists.Contents.{WasAsked}
-use Rattle.sbp_world.specs.Lists.CutOff.{IsInSlot}
-use Rattle.sbp_world.specs.Lists.Needs.{IsCalm, IsOpenAt, OpenLists, initiator_in, machine_at}
-use Rattle.sbp_world.specs.Lists.OwnReads.{IsOwnRead, ReadsData, data_slot}
-use Rattle.sbp_world.specs.Lists.Placings.{BasedAt, IsInAPlace}
-use Rattle.sbp_world.specs.Lists.Shorts.{AreShort}
 use Rattle.sbp_world.proofs.Lists.BufferClears.{Ground}
 use Rattle.sbp_world.proofs.Lists.ContentManages.{bound}
 use Rattle.sbp_world.proofs.Lists.FedOwners.{are_own_reads}

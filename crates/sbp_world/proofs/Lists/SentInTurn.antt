@@ -1,45 +1,19 @@
 -- A request of the target for the page table or the buffer of a slot that is sent in a turn is, as the turn ends, the main transaction of an agent.
-use Rattle.std.proofs.Common.{arith, ◌≡◌, ◌∙◌, refl, sym, ap, subst, inl, inr, ◌⊎◌, ◌<◌, ℕ, zero, suc, Bool, true, false, cond, List, [], ◌∷◌, length, map, Option, Some, None}
-use Rattle.bus_transactions.specs.Packets.{SerialsCount}
-use Rattle.command_agent.specs.declared.step.Which.{Which}
-use Rattle.command_agent.specs.declared.step.Which.TheVariants.{Ahead, Main}
-use Rattle.command_agent.specs.Machine.{Machine}
+use Rattle.sbp_world.proofs.Words.Std.{arith, ◌≡◌, ◌∙◌, refl, sym, ap, subst, inl, inr, ◌⊎◌, ◌<◌, ℕ, zero, suc, Bool, true, false, cond, List, [], ◌∷◌, length, map, Option, Some, None}
+use Rattle.sbp_world.proofs.Words.Wire.{SerialsCount, seeing_step, id_of, node_of, topology_at, empty_outbox, Moment, asked, Kind, Sending, part_of, request, Terms, terms, Event, Outgoing}
+use Rattle.sbp_world.proofs.Words.Target.{Which, Ahead, Main, Machine, AgentStep, Disk, Call, alone, lets_expire, receives, sees, sets_key, ticks, IsUnderWay, NodeState, TargetScene, scene, seen}
+use Rattle.sbp_world.proofs.Words.Initiator.{Nothing}
+use Rattle.sbp_world.proofs.Words.Laws.{access_in, access_in_bytes, packet_in, receiver_in, sender_in, Agent, Target, agent_at, agent_over, ahead_lost, for_agent, is_nothing, main_lost, moved, over, purpose_of, taken_on, target_at, EachMoment}
+use Rattle.sbp_world.proofs.Words.World.{WorldState, agent_in, AreAlong, IsInSlot, IsMainAt, IsCalm, OpenLists, IsLoginFifo, data_slot, BasedAt, AreShort}
 use Rattle.command_agent.specs.Steps as steps
-use Rattle.command_agent.specs.declared.step.AgentStep.{AgentStep}
-use Rattle.label_table.specs.Layer.{seeing_step}
-use Rattle.orb_layout.specs.declared.ask.Ask.TheVariants.{Nothing}
 use Rattle.orb_layout.specs.declared.ask.FailCause.TheVariants as causes
-use Rattle.rbc_disk.specs.Disk.{Disk}
-use Rattle.sbp_bus.specs.Generations.{id_of, node_of, topology_at}
-use Rattle.sbp_journal.specs.Outgoings.{empty_outbox}
-use Rattle.sbp_journal.specs.Run.{Moment, asked}
-use Rattle.sbp_journal.specs.Transactions.{Kind, Sending, part_of, request}
-use Rattle.sbp_journal.specs.Wire.{Terms, terms}
-use Rattle.sbp_journal.specs.declared.event.Event.{Event}
-use Rattle.sbp_journal.specs.declared.outbox.Outgoing.{Outgoing}
-use Rattle.sbp_laws.specs.Packets.{access_in, access_in_bytes, packet_in, receiver_in, sender_in}
-use Rattle.sbp_laws.specs.Targets.{Agent, Target, agent_at, agent_over, ahead_lost, for_agent, is_nothing, main_lost, moved, over, purpose_of, taken_on, target_at}
-use Rattle.sbp_laws.specs.Turns.{EachMoment}
-use Rattle.sbp_target.specs.Calls.{Call, alone, lets_expire, receives, sees, sets_key, ticks}
-use Rattle.sbp_target.specs.Histories.Transactions.{IsUnderWay}
-use Rattle.sbp_target.specs.Nodes.{NodeState, Scene as TargetScene, scene}
-use Rattle.sbp_target.specs.Receiving.{seen}
 use Rattle.sbp_target.specs.declared.purpose.Purpose.TheVariants as purposes
 use Rattle.sbp_target.proofs.Histories.Pass.{sees_by}
-use Rattle.sbp_world.specs.Worlds.{WorldState}
-use Rattle.sbp_world.specs.Agents.Crews.{agent_in}
 use Rattle.sbp_world.proofs.Agents.Management.Holding.{Holding, known_id}
 use Rattle.sbp_world.proofs.Agents.Management.Still.{hist}
 use Rattle.sbp_world.proofs.Hosts.SentMoments.{sent_below}
 use Rattle.sbp_world.proofs.Wire.Bus.{node_has}
 use Rattle.sbp_world.proofs.Wire.Nodes.{handed_alike}
-use Rattle.sbp_world.specs.Lists.Along.{AreAlong}
-use Rattle.sbp_world.specs.Lists.CutOff.{IsInSlot, IsMainAt}
-use Rattle.sbp_world.specs.Lists.Needs.{IsCalm, OpenLists}
-use Rattle.sbp_world.specs.Lists.OwnLogins.{IsLoginFifo}
-use Rattle.sbp_world.specs.Lists.OwnReads.{data_slot}
-use Rattle.sbp_world.specs.Lists.Placings.{BasedAt}
-use Rattle.sbp_world.specs.Lists.Shorts.{AreShort}
 use Rattle.sbp_world.proofs.Lists.BufferClears.{Ground}
 use Rattle.sbp_world.proofs.Lists.DataActs.{AreFifos}
 use Rattle.sbp_world.proofs.Lists.DataHeard.{AreOwnFor}

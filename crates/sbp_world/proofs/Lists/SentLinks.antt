@@ -1,25 +1,11 @@
 -- A packet of the target that is sent in a turn is one that its call handed out, to the node that has the packet's ID.
-use Rattle.std.proofs.Common.{◌≡◌, ◌∙◌, refl, sym, ap, subst, inl, inr, ◌⊎◌, ◌+◌, nat_eq, ℕ, Bool, true, false, cond, List, [], ◌∷◌, Option, Some, None}
-use Rattle.std.proofs.lemmas.Option.{same_Some}
-use Rattle.async_packet.specs.Labels.{LabelParts}
-use Rattle.sbp_bus.specs.Generations.{GenerationsState, node_of, topology_at}
-use Rattle.rbc_disk.specs.Disk.{Disk}
-use Rattle.sbp_journal.specs.Outgoings.{OutboxState}
-use Rattle.sbp_journal.specs.Run.{Moment, said}
-use Rattle.sbp_journal.specs.Transactions.{Sending}
-use Rattle.sbp_journal.specs.Wire.{begun_in, terms}
-use Rattle.sbp_journal.specs.declared.note.Note.{Note}
-use Rattle.sbp_journal.specs.declared.outbox.Outgoing.{Outgoing}
-use Rattle.sbp_journal.specs.declared.side.Side.{Side}
+use Rattle.sbp_world.proofs.Words.Std.{◌≡◌, ◌∙◌, refl, sym, ap, subst, inl, inr, ◌⊎◌, ◌+◌, nat_eq, ℕ, Bool, true, false, cond, List, [], ◌∷◌, Option, Some, None, same_Some}
+use Rattle.sbp_world.proofs.Words.Wire.{LabelParts, GenerationsState, node_of, topology_at, OutboxState, Moment, said, Sending, begun_in, terms, Note, Outgoing, Side}
+use Rattle.sbp_world.proofs.Words.Target.{Disk, alone}
+use Rattle.sbp_world.proofs.Words.Laws.{target_at}
+use Rattle.sbp_world.proofs.Words.World.{handed_out, asked_for, posted, sends, sent_all, sent_to, told, told_all, WorldState, AreOthers, IsOther}
 use Rattle.sbp_journal.specs.declared.side.Side.TheVariants as sides
-use Rattle.sbp_laws.specs.Targets.{target_at}
-use Rattle.sbp_target.specs.Calls.{alone}
-use Rattle.sbp_world.specs.Handing.{handed_out}
-use Rattle.sbp_world.specs.Sending.{asked as asked_for, posted, sent as sends, sent_all, sent_to}
-use Rattle.sbp_world.specs.Telling.{told, told_all}
-use Rattle.sbp_world.specs.Worlds.{WorldState}
 use Rattle.sbp_world.proofs.Agents.Management.Still.{hist}
-use Rattle.sbp_world.specs.Hosts.Handing.{AreOthers, IsOther}
 use Rattle.sbp_world.proofs.Hosts.Remaining.{gets_same, ignores_that_same, times_out_same}
 use Rattle.sbp_world.proofs.Hosts.SentMoments.{sending, sent_now}
 use Rattle.sbp_world.proofs.Lists.MainAnswers.{sent_none}

@@ -1,61 +1,26 @@
 -- Each request that a call of the target hands out has a row of its label table under way as the call ends, which belongs to somebody: to the agent of a place, to the
 -- management operation, or to an unsolicited status, which goes to a FIFO of a live login.
-use Rattle.std.proofs.Common.{◌≡◌, ◌∙◌, refl, sym, subst, ◌<◌, ◌^◌, ℕ, Bool, true, false, cond, List, [], ◌∷◌, length, take, drop, Option, Some, None, Result, Ok, Err}
-use Rattle.byteorder.specs.Endian.{big_bytes}
-use Rattle.async_packet.specs.Labels.{LabelParts}
-use Rattle.async_packet.specs.Packet.{Packet, header_in}
-use Rattle.label_table.specs.declared.reply.Stale.{Stale}
+use Rattle.sbp_world.proofs.Words.Std.{◌≡◌, ◌∙◌, refl, sym, subst, ◌<◌, ◌^◌, ℕ, Bool, true, false, cond, List, [], ◌∷◌, length, take, drop, Option, Some, None, Result, Ok, Err, big_bytes}
+use Rattle.sbp_world.proofs.Words.Wire.{LabelParts, Packet, header_in, Stale, Finding, Layer, expiring_step, judging_step, of_again, of_generation, of_grammar, of_label, of_request, of_response, seeing_step, Access, Kind, part_of, request, Judged, Outgoing, empty_outbox, Moment}
+use Rattle.sbp_world.proofs.Words.Target.{Login, Table, place_at, tick_step, Busy, Disk, disk_at, Told, AgentStep, PointRefusal, Which, Machine, state_in, doorbell_step, reply_step, block, address_error, complete, conflict_error, demand_of, Demand, Desk, Purpose, cut, follow, Call, alone, lets_expire, receives, sees, sets_key, ticks, expired_desk, point_desk, which_in, NodeState, Scene, desk_at, login_at, scene, with_agent, with_desk, answer_in, concluded, expire_agent, expired, expired_by, expired_in, expired_with, received, received_as, seen, ticked, timed_out, with_layer, Stage, Whole, advance, advanced_with, came, changed_by, follow_all, replied, replied_by, replied_to, replied_with, scene_of, served_login, stage, whole, plain_at, with_side, accessed_by, answered, asked_in, enabled, is_barred, last_pointer, point, pointed_by, pointer_bytes, rcode_of, ring, rung_by, serve, served_as, start, started_by, state_number, orb_of, IsUnderWay}
+use Rattle.sbp_world.proofs.Words.Initiator.{Ask, OrbPointer, Answer, Expired}
+use Rattle.sbp_world.proofs.Words.Laws.{access_in_bytes}
+use Rattle.sbp_world.proofs.Words.World.{WorldState}
 use Rattle.label_table.specs.History as wire
-use Rattle.label_table.specs.Layer.{Finding, Layer, expiring_step, judging_step, of_again, of_generation, of_grammar, of_label, of_request, of_response, seeing_step}
-use Rattle.login_table.specs.declared.login.Login.{Login}
-use Rattle.login_table.specs.Table.{Table, place_at, tick_step}
-use Rattle.mgmt_agent.specs.declared.operation.Busy.{Busy}
 use Rattle.mgmt_agent.specs.Machine as management
-use Rattle.orb_layout.specs.declared.ask.Ask.{Ask}
-use Rattle.orb_layout.specs.declared.pointer.OrbPointer.{OrbPointer}
-use Rattle.orb_layout.specs.Replies.{Answer, Expired}
-use Rattle.rbc_disk.specs.Disk.{Disk, disk_at}
-use Rattle.rbc_disk.specs.Runs.{Told}
-use Rattle.command_agent.specs.declared.step.AgentStep.{AgentStep}
-use Rattle.command_agent.specs.declared.step.PointRefusal.{PointRefusal}
-use Rattle.command_agent.specs.declared.step.Which.{Which}
-use Rattle.command_agent.specs.Machine.{Machine, state_in}
 use Rattle.command_agent.specs.Steps as steps
-use Rattle.command_agent.specs.Steps.{doorbell_step, reply_step}
-use Rattle.media_bay.specs.Unsolicited.{block}
-use Rattle.sbp_journal.specs.Addresses.{Access}
-use Rattle.sbp_journal.specs.Transactions.{Kind, part_of, request}
 use Rattle.sbp_journal.specs.declared.cause.Cause.TheVariants as ignored
 use Rattle.sbp_journal.specs.declared.cause.CutCause.TheVariants as cuts
-use Rattle.sbp_journal.specs.declared.cause.Judged.{Judged}
 use Rattle.sbp_journal.specs.declared.cause.Judged.TheVariants as judgements
-use Rattle.sbp_journal.specs.declared.outbox.Outgoing.{Outgoing}
 use Rattle.sbp_journal.specs.declared.side.Side.TheVariants as sides
-use Rattle.sbp_journal.specs.Outgoings.{empty_outbox}
-use Rattle.sbp_journal.specs.Run.{Moment}
-use Rattle.sbp_laws.specs.Packets.{access_in_bytes}
-use Rattle.target_base.specs.Addresses.{address_error, complete, conflict_error, demand_of}
 use Rattle.target_base.specs.declared.address.Access.{Access as Register}
 use Rattle.target_base.specs.declared.address.Access.TheVariants as accesses
-use Rattle.target_base.specs.declared.address.Demand.{Demand}
 use Rattle.target_base.specs.declared.address.Demand.TheVariants as demands
-use Rattle.sbp_target.specs.declared.desk.Desk.{Desk}
-use Rattle.sbp_target.specs.declared.purpose.Purpose.{Purpose}
 use Rattle.sbp_target.specs.declared.purpose.Purpose.TheVariants as purposes
-use Rattle.sbp_target.specs.Agents.{cut, follow}
-use Rattle.sbp_target.specs.Calls.{Call, alone, lets_expire, receives, sees, sets_key, ticks}
-use Rattle.sbp_target.specs.Desks.{expired_desk, point_desk, which_in}
-use Rattle.sbp_target.specs.Nodes.{NodeState, Scene, desk_at, login_at, scene, with_agent, with_desk}
-use Rattle.sbp_target.specs.Receiving.{answer_in, concluded, expire_agent, expired, expired_by, expired_in, expired_with, received, received_as, seen, ticked, timed_out, with_layer}
-use Rattle.sbp_target.specs.Replies.{Stage, Whole, advance, advanced_with, came, changed_by, follow_all, replied, replied_by, replied_to, replied_with, scene_of, served_login, stage, whole, plain_at}
-use Rattle.sbp_target.specs.Sending.{with_side}
-use Rattle.sbp_target.specs.Serving.{accessed_by, answered, asked_in, enabled, is_barred, last_pointer, point, pointed_by, pointer_bytes, rcode_of, request_step, ring, rung_by, serve, served_as, start, started_by, state_number}
-use Rattle.sbp_target.specs.Telling.{orb_of}
-use Rattle.sbp_target.specs.Histories.Transactions.{IsUnderWay}
+use Rattle.sbp_target.specs.Serving.{request_step}
 use Rattle.sbp_target.proofs.Histories.Calling.{Good}
 use Rattle.sbp_target.proofs.Histories.Pass.{At, cuts_at, sees_by, ticks_by}
 use Rattle.sbp_target.proofs.Histories.Served.{answers_at}
-use Rattle.sbp_world.specs.Worlds.{WorldState}
 use Rattle.sbp_world.proofs.Agents.AskedAgents.{fifo_fits}
 use Rattle.sbp_world.proofs.Agents.AskedLate.{follow_logins}
 use Rattle.sbp_world.proofs.Agents.Management.Awaiting.{under_for}

@@ -1,33 +1,13 @@
 -- What follows a step of an agent, a step of the management agent, and a disc that came: before the first request of a call transactions may be given up, behind it none is.
-use Rattle.std.proofs.Common.{arith, ◌≡◌, refl, sym, subst, ◌+◌, ◌&&◌, ℕ, zero, suc, nat_lt, is_some, Bool, true, false, cond, Option, Some, None}
-use Rattle.label_table.specs.declared.judgement.Asked.{Asked}
-use Rattle.label_table.specs.Bodies.{Body, block_write}
-use Rattle.label_table.specs.Layer.{Layer, asking_step, free_labels}
-use Rattle.login_table.specs.declared.login.Login.{Login}
-use Rattle.login_table.specs.Table.{Table, is_live, place_at}
-use Rattle.media_bay.specs.Unsolicited.{block}
-use Rattle.orb_layout.specs.declared.ask.Ask.{Ask}
-use Rattle.orb_layout.specs.declared.ask.FailCause.{FailCause}
+use Rattle.sbp_world.proofs.Words.Std.{arith, ◌≡◌, refl, sym, subst, ◌+◌, ◌&&◌, ℕ, zero, suc, nat_lt, is_some, Bool, true, false, cond, Option, Some, None}
+use Rattle.sbp_world.proofs.Words.Wire.{Asked, Body, block_write, Layer, asking_step, free_labels, OutboxState}
+use Rattle.sbp_world.proofs.Words.Target.{Login, Table, is_live, place_at, block, AgentStep, Ahead, Main, is_under_way, lost_step, quiet, ManagerStep, Purpose, after_ahead, after_loss, after_main, agent_body, ahead_asked, ahead_sent, ask_main, follow, lose, lose_main, lost_by, main_asked, main_sent, noted, send_ahead, ask_manager, decided_by, lose_operation, lost_in, manage, managed_in, managed_with, manager_asked, manager_body, manager_lost, manager_sent, tell_failed, with_manager, NodeState, Scene, desk_at, login_at, scene, with_agent, announced_by, request_step, sent_by, with_side, tell_step, announce_at, announce_from, announce_in, announce_to, hears, is_pending, unsolicited_by}
+use Rattle.sbp_world.proofs.Words.Initiator.{Ask, FailCause, Answer, NoLabel}
+use Rattle.sbp_world.proofs.Words.Laws.{access_in_bytes}
 use Rattle.orb_layout.specs.declared.ask.FailCause.TheVariants as causes
-use Rattle.orb_layout.specs.Replies.{Answer, NoLabel}
-use Rattle.command_agent.specs.declared.step.AgentStep.{AgentStep}
-use Rattle.command_agent.specs.declared.step.Which.TheVariants.{Ahead, Main}
-use Rattle.command_agent.specs.Machine.{is_under_way}
-use Rattle.command_agent.specs.Steps.{lost_step, quiet}
-use Rattle.mgmt_agent.specs.declared.decision.ManagerStep.{ManagerStep}
 use Rattle.mgmt_agent.specs.Machine as management
 use Rattle.sbp_journal.specs.declared.side.Side.TheVariants as sides
-use Rattle.sbp_journal.specs.Outgoings.{OutboxState}
-use Rattle.sbp_laws.specs.Packets.{access_in_bytes}
-use Rattle.sbp_target.specs.declared.purpose.Purpose.{Purpose}
 use Rattle.sbp_target.specs.declared.purpose.Purpose.TheVariants as purposes
-use Rattle.sbp_target.specs.Agents.{after_ahead, after_loss, after_main, agent_body, ahead_asked, ahead_sent, ask_main, follow, lose, lose_main, lost_by, main_asked, main_sent, noted, send_ahead}
-use Rattle.sbp_target.specs.Management.{ask_manager, decided_by, lose_operation, lost_in, manage, managed_in, managed_with, manager_asked, manager_body, manager_lost, manager_sent, tell_failed, with_manager}
-use Rattle.sbp_target.specs.Nodes.{NodeState, Scene, desk_at, login_at, scene, with_agent}
-use Rattle.sbp_target.specs.Replies.{announced_by}
-use Rattle.sbp_target.specs.Sending.{request_step, sent_by, with_side}
-use Rattle.sbp_target.specs.Telling.{tell_step}
-use Rattle.sbp_target.specs.Units.{announce_at, announce_from, announce_in, announce_to, hears, is_pending, unsolicited_by}
 use Rattle.sbp_target.proofs.Histories.Pass.{At, decides, notes_at}
 use Rattle.sbp_world.proofs.Lists.SentOwnedLives.{IsTellable, Owning, Unasked, agent_tells, finds_none, manager_tells, owning_of, sends, unasked_leaves}
 use Rattle.sbp_world.proofs.Lists.StatusBytes.{written_at, wrote}

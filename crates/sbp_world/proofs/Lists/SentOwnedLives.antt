@@ -1,22 +1,12 @@
 -- What is said of the packets of a call of the target on its way: no packet is a request yet; or each request has a transaction under way that belongs to somebody.
 -- A transaction that belongs to nobody keeps the first; a request that is sent leads to the second, and keeps it, since it takes a label that has none under way.
-use Rattle.std.proofs.Common.{◌≡◌, ◌∙◌, refl, sym, ap, ℕ, List, [], ◌∷◌, ◌++◌, Option, Some, None}
-use Rattle.async_packet.specs.Labels.{LabelParts}
-use Rattle.async_packet.specs.Packet.{Packet}
-use Rattle.label_table.specs.declared.judgement.Asked.{Asked}
-use Rattle.label_table.specs.declared.reply.ReplyKind.{ReplyKind}
-use Rattle.label_table.specs.Bodies.{Body}
+use Rattle.sbp_world.proofs.Words.Std.{◌≡◌, ◌∙◌, refl, sym, ap, ℕ, List, [], ◌∷◌, ◌++◌, Option, Some, None}
+use Rattle.sbp_world.proofs.Words.Wire.{LabelParts, Packet, Asked, ReplyKind, Body, began, not_begun, under_way, Layer, answering_step, asking_step, disowning_step, unlabelled, Access, Kind, part_of, request, Outgoing}
+use Rattle.sbp_world.proofs.Words.Target.{block, Purpose, response, with_asked}
+use Rattle.sbp_world.proofs.Words.Laws.{access_in_bytes}
 use Rattle.label_table.specs.History as wire
-use Rattle.label_table.specs.History.{began, is_same, not_begun, under_way}
-use Rattle.label_table.specs.Layer.{Layer, answering_step, asking_step, disowning_step, unlabelled}
-use Rattle.media_bay.specs.Unsolicited.{block}
-use Rattle.sbp_journal.specs.Addresses.{Access}
-use Rattle.sbp_journal.specs.Transactions.{Kind, part_of, request}
-use Rattle.sbp_journal.specs.declared.outbox.Outgoing.{Outgoing}
-use Rattle.sbp_laws.specs.Packets.{access_in_bytes}
-use Rattle.sbp_target.specs.declared.purpose.Purpose.{Purpose}
+use Rattle.label_table.specs.History.{is_same}
 use Rattle.sbp_target.specs.declared.purpose.Purpose.TheVariants as purposes
-use Rattle.sbp_target.specs.Histories.Layers.{response, with_asked}
 use Rattle.sbp_target.proofs.Histories.Pass.{Leaves}
 use Rattle.sbp_target.proofs.Histories.Primitives.{Begun, Known, asks_known, began_at, began_off, live_on, none_known}
 use Rattle.sbp_target.proofs.Histories.Seats.{Lives, OffOne, same_is, split}

@@ -1,17 +1,8 @@
 -- A packet of the target that is a request has the number of its label in its bytes, and a response is no request, whether a packet can carry them or not.
-use Rattle.std.proofs.Common.{arith, ◌≡◌, ◌∙◌, refl, sym, ap, ◌<◌, ◌+◌, ◌*◌, ◌^◌, ◌==◌, ℕ, Bool, true, false, cond, List, ◌++◌, Option, Some, None}
-use Rattle.async_packet.specs.declared.fault.PacketFault.{PacketFault}
-use Rattle.async_packet.specs.Canon.{canon, four, three}
-use Rattle.async_packet.specs.Fields.{header_of, tcode_of}
-use Rattle.async_packet.specs.Faults.{fault_of}
-use Rattle.async_packet.specs.Packet.{Packet, lock, lock_response, read_block, read_block_response, read_quadlet, read_quadlet_response, write_block, write_quadlet, write_response}
-use Rattle.async_packet.specs.Reading.{packet_in, reading, unless_fault}
-use Rattle.byteorder.specs.Endian.{big_bytes}
-use Rattle.label_table.specs.Bodies.{Body, block_read, block_write, header_to, quadlet_read, quadlet_write, request_with, response_to}
-use Rattle.label_table.specs.Layer.{Layer, answering_step}
-use Rattle.label_table.specs.Requests.{with_label}
-use Rattle.sbp_journal.specs.Transactions.{Kind, no_packet, part_by, part_in, part_of, request, response}
-use Rattle.sbp_target.specs.declared.purpose.Purpose.{Purpose}
+use Rattle.sbp_world.proofs.Words.Std.{arith, ◌≡◌, ◌∙◌, refl, sym, ap, ◌<◌, ◌+◌, ◌*◌, ◌^◌, ◌==◌, ℕ, Bool, true, false, cond, List, ◌++◌, Option, Some, None, big_bytes}
+use Rattle.sbp_world.proofs.Words.Wire.{PacketFault, canon, four, three, header_of, tcode_of, fault_of, Packet, lock, lock_response, read_block, read_block_response, read_quadlet, read_quadlet_response, write_block, write_quadlet, write_response, packet_in, reading, unless_fault, Body, block_read, block_write, header_to, quadlet_read, quadlet_write, request_with, response_to, Layer, answering_step, with_label, Kind, part_by, part_in, part_of, request, response}
+use Rattle.sbp_world.proofs.Words.Target.{Purpose}
+use Rattle.sbp_journal.specs.Transactions.{no_packet}
 use Rattle.sbp_world.proofs.Hosts.Mild.{quad_tcode}
 
 -- ---- the label of a request stands in its header

@@ -1,19 +1,11 @@
 -- What a request of the target is for by the terms, at a place where its row in the label table belongs to somebody.
-use Rattle.std.proofs.Common.{◌≡◌, ◌∙◌, refl, sym, ap, ◌<◌, ℕ, Bool, true, false, List, Some}
-use Rattle.bus_transactions.specs.Wire.{transaction}
-use Rattle.command_agent.specs.declared.step.Which.{Which}
-use Rattle.rbc_disk.specs.Disk.{Disk}
-use Rattle.sbp_journal.specs.Run.{Moment}
-use Rattle.sbp_journal.specs.Transactions.{Kind, Part, Sending, Transaction, asked_as, asked_by, begun_by, begun_if, between, no_packet, part_of, request, response}
-use Rattle.sbp_journal.specs.Wire.{Terms, terms, waits}
-use Rattle.sbp_laws.specs.Packets.{is_under_way}
-use Rattle.sbp_laws.specs.Targets.{Target, for_agent, for_manager, over, purpose_of, target_at}
-use Rattle.sbp_target.specs.Histories.Transactions.{IsUnderWay}
-use Rattle.sbp_target.specs.declared.purpose.Purpose.{Purpose}
+use Rattle.sbp_world.proofs.Words.Std.{◌≡◌, ◌∙◌, refl, sym, ap, ◌<◌, ℕ, Bool, true, false, List, Some}
+use Rattle.sbp_world.proofs.Words.Wire.{transaction, Moment, Kind, Part, Sending, Transaction, asked_as, asked_by, begun_by, begun_if, between, part_of, request, response, Terms, terms, waits}
+use Rattle.sbp_world.proofs.Words.Target.{Which, Disk, IsUnderWay, Purpose}
+use Rattle.sbp_world.proofs.Words.Laws.{is_under_way, Target, for_agent, for_manager, over, purpose_of, target_at}
+use Rattle.sbp_world.proofs.Words.World.{WorldState, AreAgentsAt, IsHanded}
+use Rattle.sbp_journal.specs.Transactions.{no_packet}
 use Rattle.sbp_target.specs.declared.purpose.Purpose.TheVariants as purposes
-use Rattle.sbp_world.specs.Worlds.{WorldState}
-use Rattle.sbp_world.specs.Agents.Agents.{AreAgentsAt}
-use Rattle.sbp_world.specs.Agents.Serials.{IsHanded}
 use Rattle.sbp_world.proofs.Agents.Handed.{are_handed}
 use Rattle.sbp_world.proofs.Agents.Management.Holding.{Holding}
 use Rattle.sbp_world.proofs.Agents.Management.Still.{hist}

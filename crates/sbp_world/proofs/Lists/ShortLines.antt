@@ -1,15 +1,9 @@
 -- The lines of a run name units of 16 bits.
-use Rattle.std.proofs.Common.{arith, ℕ, List, [], ◌∷◌, ◌++◌, map}
-use Rattle.sbp_journal.specs.Run.{Moment, said}
-use Rattle.sbp_journal.specs.declared.event.Action.{Action}
+use Rattle.sbp_world.proofs.Words.Std.{arith, ℕ, List, [], ◌∷◌, ◌++◌, map}
+use Rattle.sbp_world.proofs.Words.Wire.{Moment, said, Action, Event, Note}
+use Rattle.sbp_world.proofs.Words.World.{moments_behind, Entry, Run, AreLines, FillsAction, IsLine, AreShort, IsShortAction, IsShortEvent}
 use Rattle.sbp_journal.specs.declared.event.Action.TheVariants as actions
-use Rattle.sbp_journal.specs.declared.event.Event.{Event}
 use Rattle.sbp_journal.specs.declared.event.Event.TheVariants as events
-use Rattle.sbp_journal.specs.declared.note.Note.{Note}
-use Rattle.sbp_world.specs.Histories.{moments_behind}
-use Rattle.sbp_world.specs.Runs.{Entry, Run}
-use Rattle.sbp_world.specs.Wire.Lines.{AreLines, FillsAction, IsLine}
-use Rattle.sbp_world.specs.Lists.Shorts.{AreShort, IsShortAction, IsShortEvent}
 use Rattle.sbp_world.proofs.Lists.LiveGiven.{ShortLaw}
 
 short_said : (ns : List Note) (past : List Moment) → AreShort past → AreShort (map said ns ++ past)

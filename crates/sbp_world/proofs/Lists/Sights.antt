@@ -1,23 +1,13 @@
 -- In every run a node sees a reset right behind the line that asks for it.
-use Rattle.std.proofs.Common.{sym, subst, ℕ, Bool, true, false, List, [], ◌∷◌, ◌++◌, map, Option, Some, None}
-use Rattle.rbc_disk.specs.Runs.{Told}
-use Rattle.sbp_journal.specs.declared.cause.Judged.{Judged}
+use Rattle.sbp_world.proofs.Words.Std.{sym, subst, ℕ, Bool, true, false, List, [], ◌∷◌, ◌++◌, map, Option, Some, None}
+use Rattle.sbp_world.proofs.Words.Wire.{Judged, end_note, judged_note, Moment, asked, said, Event, Note}
+use Rattle.sbp_world.proofs.Words.Target.{Told}
+use Rattle.sbp_world.proofs.Words.Laws.{EachMoment}
+use Rattle.sbp_world.proofs.Words.World.{IsRun, more_deliveries, history_of, moments_behind, MayHappen, happens, is_in_flight, may_repeat, AreEntries, Entry, Run, after, beginning, MayAll, MayNext, after_all, delivered_at, delivered_next, is_settled, lowest, AreLines, IsLine, Scene, begun, without_notes}
 use Rattle.sbp_journal.specs.declared.cause.Judged.TheVariants as judgements
-use Rattle.sbp_laws.specs.Turns.{EachMoment}
-use Rattle.sbp_world.specs.Hosts.Runs.{IsRun, more_deliveries}
-use Rattle.sbp_bus.specs.Packets.{end_note, judged_note}
-use Rattle.sbp_journal.specs.Run.{Moment, asked, said}
-use Rattle.sbp_journal.specs.declared.event.Event.{Event}
 use Rattle.sbp_journal.specs.declared.event.Event.TheVariants as events
-use Rattle.sbp_journal.specs.declared.note.Note.{Note}
 use Rattle.sbp_journal.specs.declared.note.Note.TheVariants as notes
-use Rattle.sbp_world.specs.Histories.{history_of, moments_behind}
-use Rattle.sbp_world.specs.Lines.{MayHappen, happens}
-use Rattle.sbp_world.specs.Packets.{is_in_flight, may_repeat}
-use Rattle.sbp_world.specs.Runs.{AreEntries, Entry, Run, after, beginning}
-use Rattle.sbp_world.specs.Settling.{MayAll, MayAt, MayNext, after_all, delivered_at, delivered_next, is_settled, lowest}
-use Rattle.sbp_world.specs.Wire.Lines.{AreLines, IsLine}
-use Rattle.sbp_world.specs.Worlds.{Scene, begun, without_notes}
+use Rattle.sbp_world.specs.Settling.{MayAt}
 use Rattle.sbp_world.proofs.Lists.SendsLast.{AllEffects, AllSends, Hands, Hears, IsEffect, IsSend, Shaped, acts, begins, delivery_hears, goes, hears, injects, keys, late, led, loses, one_comes, resets, sights, ticks, unheard}
 use Rattle.sbp_world.proofs.Common.{said_split}
 

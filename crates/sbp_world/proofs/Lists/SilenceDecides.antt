@@ -1,19 +1,11 @@
 -- What is decided on an ORB that ends lists has no response.
-use Rattle.std.proofs.Common.{◌≡◌, refl, sym, subst, ℕ, zero, suc, ◌==◌, Bool, true, false, cond, List, [], length, take, Option, Some, None, Result, Ok, Err}
-use Rattle.login_table.specs.declared.login.Login.{Login}
-use Rattle.login_table.specs.declared.login.LoginRefusal.{LoginRefusal}
-use Rattle.login_table.specs.Table.{Table, leave_step}
-use Rattle.mgmt_agent.specs.declared.decision.Effect.{Effect}
+use Rattle.sbp_world.proofs.Words.Std.{◌≡◌, refl, sym, subst, ℕ, zero, suc, ◌==◌, Bool, true, false, cond, List, [], length, take, Option, Some, None, Result, Ok, Err}
+use Rattle.sbp_world.proofs.Words.Target.{Login, LoginRefusal, Table, leave_step, Effect, Response, Function, decide, decide_function, effect_of, left_decided, live_login, on_login, response_bytes, with_status, cut_response, function_of}
+use Rattle.sbp_world.proofs.Words.Initiator.{ManagementOrb}
 use Rattle.mgmt_agent.specs.declared.decision.Outcome.{Outcome}
-use Rattle.mgmt_agent.specs.declared.decision.Response.{Response}
 use Rattle.mgmt_agent.specs.declared.decision.Response.TheVariants as responses
-use Rattle.mgmt_agent.specs.declared.function.Function.{Function}
 use Rattle.mgmt_agent.specs.declared.function.Function.TheVariants as functions
 use Rattle.mgmt_agent.specs.declared.status.Status.TheVariants as statuses
-use Rattle.mgmt_agent.specs.Decisions.{decide, decide_function, effect_of, left_decided, live_login, on_login, response_bytes, with_status}
-use Rattle.mgmt_agent.specs.Machine.{cut_response}
-use Rattle.mgmt_agent.specs.Statuses.{function_of}
-use Rattle.orb_layout.specs.declared.management.ManagementOrb.{ManagementOrb}
 use Rattle.sbp_world.proofs.Lists.OpenedOrbs.{EndsLists, ends_lists}
 use Rattle.sbp_world.proofs.Common.{untrue}
 

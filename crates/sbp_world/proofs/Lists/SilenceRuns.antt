@@ -1,13 +1,8 @@
 -- While an initiator has an operation under way that ends lists, the target writes no response for it, at each place of a run.
-use Rattle.std.proofs.Common.{subst, ℕ, ◌<◌, List, [], length}
-use Rattle.rbc_disk.specs.Disk.{Disk}
-use Rattle.sbp_journal.specs.Run.{Moment}
-use Rattle.sbp_world.specs.Histories.{moments_behind}
-use Rattle.sbp_world.specs.Making.{ready_logins}
-use Rattle.sbp_world.specs.Runs.{Run, beginning}
-use Rattle.sbp_world.specs.Worlds.{WorldState}
-use Rattle.sbp_world.specs.Lists.Needs.{IsCalm}
-use Rattle.sbp_world.specs.Lists.Silences.{IsSilent}
+use Rattle.sbp_world.proofs.Words.Std.{subst, ℕ, ◌<◌, List, [], length}
+use Rattle.sbp_world.proofs.Words.Wire.{Moment}
+use Rattle.sbp_world.proofs.Words.Target.{Disk}
+use Rattle.sbp_world.proofs.Words.World.{moments_behind, ready_logins, Run, beginning, WorldState, IsCalm, IsSilent}
 use Rattle.sbp_world.proofs.Lists.Courses.{EveryPlace, Keeps, at_between, at_lines}
 use Rattle.sbp_world.proofs.Lists.KeptRuns.{AreKeptAt, kept_everywhere}
 use Rattle.sbp_world.proofs.Lists.LiveGiven.{LawsAt}

@@ -1,42 +1,17 @@
 -- At each turn the target writes no response of an operation of an initiator that ends lists.
-use Rattle.std.proofs.Common.{arith, ◌≡◌, ◌∙◌, refl, sym, ap, subst, ℕ, zero, suc, ◌<◌, true, false, List, length, Option, Some, None}
-use Rattle.async_packet.specs.Labels.{LabelParts}
-use Rattle.async_packet.specs.Packet.{Packet}
+use Rattle.sbp_world.proofs.Words.Std.{arith, ◌≡◌, ◌∙◌, refl, sym, ap, subst, ℕ, zero, suc, ◌<◌, true, false, List, length, Option, Some, None}
+use Rattle.sbp_world.proofs.Words.Wire.{LabelParts, Packet, judging_step, of_response, Sent, found_sent, Word, empty_outbox, Moment, terms}
+use Rattle.sbp_world.proofs.Words.Target.{Operation, Table, Disk, Told, NodeState, scene, answer_in, received, whole}
+use Rattle.sbp_world.proofs.Words.Initiator.{start_of}
+use Rattle.sbp_world.proofs.Words.Laws.{cuts_list, Underway, host_at, is_management}
+use Rattle.sbp_world.proofs.Words.World.{NoneInjected, Core, work_in, work_of, Scene, WorldState, initiator_at, is_written, IsInPlace, IsKept, IsHandling, IsManaged, IsCalm, HasShortOrb, IsSilent, AreUnderway, OperationsLast, WasUnderway}
 use Rattle.bus_memory.specs.declared.window.Window.TheVariants as windows
-use Rattle.bus_memory.specs.Windows.{start as start_of}
-use Rattle.sbp_world.specs.Hosts.Carrying.{NoneInjected}
-use Rattle.sbp_world.specs.Hosts.Core.{Core, work_in, work_of}
-use Rattle.label_table.specs.Layer.{judging_step, of_response}
-use Rattle.mgmt_agent.specs.declared.operation.Operation.{Operation}
 use Rattle.mgmt_agent.specs.declared.operation.Phase.{Phase}
 use Rattle.mgmt_agent.specs.declared.operation.Phase.TheVariants as phases
 use Rattle.mgmt_agent.specs.Machine.{Machine}
-use Rattle.packet_store.specs.declared.sent.Sent.{Sent}
-use Rattle.packet_store.specs.Kept.{found_sent}
-use Rattle.login_table.specs.Table.{Table}
-use Rattle.rbc_disk.specs.Disk.{Disk}
-use Rattle.rbc_disk.specs.Runs.{Told}
-use Rattle.sbp_journal.specs.declared.operation.Operation.{Operation as Word}
-use Rattle.sbp_journal.specs.Outgoings.{empty_outbox}
-use Rattle.sbp_journal.specs.Run.{Moment}
-use Rattle.sbp_journal.specs.Wire.{terms}
-use Rattle.sbp_laws.specs.Actions.{cuts_list}
-use Rattle.sbp_laws.specs.Hosts.{Underway, host_at, is_management}
 use Rattle.sbp_target.specs.declared.purpose.Purpose.TheVariants as purposes
-use Rattle.sbp_target.specs.Nodes.{NodeState, scene}
-use Rattle.sbp_target.specs.Receiving.{answer_in, received}
-use Rattle.sbp_target.specs.Replies.{whole}
-use Rattle.sbp_world.specs.Worlds.{Scene, WorldState, initiator_at}
 use Rattle.sbp_world.proofs.Agents.Management.Holding.{Holding}
 use Rattle.sbp_world.proofs.Agents.Management.Still.{hist}
-use Rattle.sbp_world.specs.Sessions.Writing.{is_written}
-use Rattle.sbp_world.specs.Lists.InPlace.{IsInPlace}
-use Rattle.sbp_world.specs.Lists.KeptOrbs.{IsKept}
-use Rattle.sbp_world.specs.Lists.Managing.{IsHandling, IsManaged}
-use Rattle.sbp_world.specs.Lists.Needs.{IsCalm}
-use Rattle.sbp_world.specs.Lists.Shorts.{HasShortOrb}
-use Rattle.sbp_world.specs.Lists.Silences.{IsSilent}
-use Rattle.sbp_world.specs.Lists.Underway.{AreUnderway, OperationsLast, WasUnderway}
 use Rattle.sbp_world.proofs.Lists.Courses.{Goes}
 use Rattle.sbp_world.proofs.Lists.KeptBrings.{brings}
 use Rattle.sbp_world.proofs.Lists.KeptTurns.{id_is, operation_is, own_is, was_underway, zero_is}

@@ -1,53 +1,23 @@
 -- What holds of every run at each place of its history between two turns, and what it says of an agent that waits: its initiator, and the ORB that an
 -- address names.
-use Rattle.std.proofs.Common.{arith, ◌≡◌, ◌∙◌, refl, sym, ap, subst, ◌<◌, ℕ, suc, ◌+◌, nat_lt, is_some, Bool, true, false, cond, List, length, Option, Some, None}
-use Rattle.std.proofs.lemmas.Bool.Decides.{nat_tests}
+use Rattle.sbp_world.proofs.Words.Std.{arith, ◌≡◌, ◌∙◌, refl, sym, ap, subst, ◌<◌, ℕ, suc, ◌+◌, nat_lt, is_some, Bool, true, false, cond, List, length, Option, Some, None, nat_tests}
+use Rattle.sbp_world.proofs.Words.Wire.{SerialsCount, or_nobody, list_in, orb_in, Access, Moment, Terms, terms, Cmd}
+use Rattle.sbp_world.proofs.Words.Target.{Which, Ahead, Main, Machine, is_ahead, is_sent, state_in, is_reset, writes_status, Table, place_at, Disk, Desk, desk_at}
+use Rattle.sbp_world.proofs.Words.Initiator.{slot_of, start, last_at, last_in, TicketParts}
+use Rattle.sbp_world.proofs.Words.Laws.{fifo_in, command_at, orb, prepared_in, slot_at, access_at, receiver_in, Agent, Target, agent_at, term_initiator, initiator_with, term_login, node_in, over, target_at}
+use Rattle.sbp_world.proofs.Words.World.{ticket_of, WorldState, initiator_at, Office, AreAgentsAt, AreAskedAt, IsAccessFor, serial_of, IsOf, AreHeldAt, AllBring, NoneInjected, AreRows, name_in, IsNamed, initiator_in, is_open_at}
 use Rattle.bus_memory.specs.declared.window.Window.TheVariants as windows
-use Rattle.bus_memory.specs.Windows.{slot_of, start}
 use Rattle.bus_memory.proofs.Found.{slot_of_law}
-use Rattle.bus_transactions.specs.Packets.{SerialsCount}
 use Rattle.command_agent.specs.declared.phase.Phase.TheVariants as phases
-use Rattle.command_agent.specs.declared.step.Which.{Which}
-use Rattle.command_agent.specs.declared.step.Which.TheVariants.{Ahead, Main}
-use Rattle.command_agent.specs.Machine.{Machine, is_ahead, is_sent, state_in}
-use Rattle.command_agent.specs.Steps.{is_reset}
-use Rattle.command_agent.specs.Tasks.{writes_status}
-use Rattle.login_table.specs.Table.{Table, place_at}
-use Rattle.orb_list.specs.Lists.{last_at, last_in}
-use Rattle.orb_list.specs.Tickets.{TicketParts}
-use Rattle.rbc_disk.specs.Disk.{Disk}
-use Rattle.sbp_bus.specs.Places.{or_nobody}
-use Rattle.sbp_bus.specs.Telling.{list_in, orb_in}
-use Rattle.sbp_journal.specs.Addresses.{Access}
-use Rattle.sbp_journal.specs.Run.{Moment}
-use Rattle.sbp_journal.specs.Wire.{Terms, terms}
-use Rattle.sbp_journal.specs.declared.event.Cmd.{Cmd}
-use Rattle.sbp_laws.specs.Agents.{fifo_in}
-use Rattle.sbp_laws.specs.Lists.{command_at, orb, prepared_in, slot_at}
-use Rattle.sbp_laws.specs.Packets.{access_at, receiver_in}
-use Rattle.sbp_laws.specs.Targets.{Agent, Target, agent_at, initiator_at as term_initiator, initiator_with, login_at as term_login, node_in, over, target_at}
-use Rattle.sbp_target.specs.declared.desk.Desk.{Desk}
-use Rattle.sbp_target.specs.Nodes.{desk_at}
-use Rattle.sbp_world.specs.Telling.{ticket_of}
-use Rattle.sbp_world.specs.Worlds.{WorldState, initiator_at}
 use Rattle.sbp_target.proofs.Histories.Calling.{Good, not_eight}
 use Rattle.sbp_target.proofs.Histories.Following.{Fits, IsServed}
-use Rattle.sbp_world.specs.Agents.Management.Offices.{Office}
 use Rattle.sbp_world.proofs.Agents.Management.Holding.{Holding}
 use Rattle.sbp_world.proofs.Agents.Management.Offices.{over_keeps}
 use Rattle.sbp_world.proofs.Agents.Management.Still.{hist}
-use Rattle.sbp_world.specs.Agents.Agents.{AreAgentsAt}
-use Rattle.sbp_world.specs.Agents.AskedRuns.{AreAskedAt, IsAccessFor, serial_of}
-use Rattle.sbp_world.specs.Agents.Crews.{IsOf}
-use Rattle.sbp_world.specs.Agents.Holders.{AreHeldAt}
 use Rattle.sbp_world.proofs.Agents.AskedAlike.{ahead_alike, main_alike, reads_on}
 use Rattle.sbp_world.proofs.Agents.Purposes.{g}
-use Rattle.sbp_world.specs.Hosts.Carrying.{AllBring, NoneInjected}
-use Rattle.sbp_world.specs.Hosts.Fits.{AreRows}
-use Rattle.sbp_world.specs.Hosts.Rows.{name_in}
 use Rattle.sbp_world.proofs.Hosts.LastingTerms.{AllLast}
 use Rattle.sbp_world.proofs.Hosts.Readings.{read_law}
-use Rattle.sbp_world.specs.Lists.Needs.{IsNamed, initiator_in, is_open_at}
 use Rattle.sbp_world.proofs.Lists.ReadSlots.{under_as}
 use Rattle.sbp_world.proofs.Lists.Slots.{IsFilled}
 use Rattle.sbp_world.proofs.Agents.AskedAgents.{sent_reset}

@@ -1,51 +1,21 @@
 -- In every run what an initiator ignores for its slot is written to an open FIFO, which stands behind all its response buffers and data buffers.
-use Rattle.std.proofs.Common.{arith, ◌≡◌, refl, sym, ◌∙◌, ap, ℕ, suc, ◌<◌, ◌≤◌, ◌==◌, ◌&&◌, ◌||◌, not, Bool, true, false, cond, List, [], ◌∷◌, ◌++◌, Option, Some, None, Result, Ok, Err}
-use Rattle.std.proofs.lemmas.Bool.Decides.{nat_tests}
-use Rattle.async_packet.specs.Packet.{Packet, header_in}
-use Rattle.async_packet.specs.Reading.{reading}
-use Rattle.async_packet.specs.declared.fault.PacketFault.{PacketFault}
+use Rattle.sbp_world.proofs.Words.Std.{arith, ◌≡◌, refl, sym, ◌∙◌, ap, ℕ, suc, ◌<◌, ◌≤◌, ◌==◌, ◌&&◌, ◌||◌, not, Bool, true, false, cond, List, [], ◌∷◌, ◌++◌, Option, Some, None, Result, Ok, Err, nat_tests}
+use Rattle.sbp_world.proofs.Words.Wire.{Packet, header_in, reading, PacketFault, Row, by_again, by_generation, by_grammar, by_label, by_request, by_response, row_of, facts_of, Access, access_of, empty_outbox, Moment, asked, said, Sending, terms, Judged, Event, Note, Side, judged_note}
+use Rattle.sbp_world.proofs.Words.Target.{Told}
+use Rattle.sbp_world.proofs.Words.Initiator.{fifo_at, is_login_fifo, is_open_login, place_fifo, InitiatorState, act_step, Turn, new_state, expire_step, receive_step, see_step, is_step, is_out_seat, facts_at, fifo_for, is_open, judging_by, note_by, note_of}
+use Rattle.sbp_world.proofs.Words.Laws.{is_effect}
+use Rattle.sbp_world.proofs.Words.World.{history_of, Run, after, beginning, MayAll, begun, IsDelivering, behind, IsRun}
 use Rattle.initiator_base.specs.declared.fifos.Fifo.TheVariants as fifos
-use Rattle.initiator_base.specs.Fifos.{fifo_at, is_login_fifo, is_open_login}
-use Rattle.initiator_base.specs.Places.{place_fifo}
-use Rattle.label_table.specs.Judging.{Row, by_again, by_generation, by_grammar, by_label, by_request, by_response, row_of}
-use Rattle.label_table.specs.Layer.{facts_of}
-use Rattle.rbc_disk.specs.Runs.{Told}
-use Rattle.sbp_journal.specs.Addresses.{Access, access_of}
-use Rattle.sbp_journal.specs.Outgoings.{empty_outbox}
-use Rattle.sbp_journal.specs.Run.{Moment, asked, said}
-use Rattle.sbp_journal.specs.Transactions.{Sending}
-use Rattle.sbp_journal.specs.Wire.{terms}
 use Rattle.sbp_journal.specs.declared.cause.Cause.TheVariants as causes
-use Rattle.sbp_journal.specs.declared.cause.Judged.{Judged}
 use Rattle.sbp_journal.specs.declared.cause.Judged.TheVariants as judgements
-use Rattle.sbp_journal.specs.declared.event.Event.{Event}
 use Rattle.sbp_journal.specs.declared.event.Event.TheVariants as events
-use Rattle.sbp_journal.specs.declared.note.Note.{Note}
 use Rattle.sbp_journal.specs.declared.note.Note.TheVariants as notes
-use Rattle.sbp_journal.specs.declared.side.Side.{Side}
 use Rattle.sbp_journal.specs.declared.side.Side.TheVariants as sides
-use Rattle.sbp_initiator.specs.declared.state.InitiatorState.{InitiatorState}
-use Rattle.sbp_initiator.specs.Acting.{act_step}
-use Rattle.sbp_initiator.specs.Effects.{Turn}
-use Rattle.sbp_initiator.specs.Initiators.{new_state}
-use Rattle.sbp_initiator.specs.Receiving.{expire_step, receive_step}
-use Rattle.sbp_initiator.specs.Seeing.{see_step}
-use Rattle.sbp_initiator.specs.Steps.{is_step}
-use Rattle.sbp_bus.specs.Packets.{judged_note}
-use Rattle.sbp_laws.specs.Deliveries.{is_effect}
-use Rattle.sbp_session.specs.Seats.{is_out_seat}
-use Rattle.sbp_world.specs.Histories.{history_of}
-use Rattle.sbp_world.specs.Runs.{Run, after, beginning}
-use Rattle.sbp_world.specs.Settling.{MayAll}
-use Rattle.sbp_world.specs.Worlds.{begun}
 use Rattle.sbp_world.proofs.Wire.Effects.{AreEffectSides, IsEffectSide}
 use Rattle.sbp_world.proofs.Wire.OwnActs.{AreStepSides, IsStepSide, acts}
 use Rattle.sbp_world.proofs.Wire.OwnTells as own
-use Rattle.sbp_initiator.specs.Histories.Judging.{facts_at, fifo_for, is_open, judging_by, note_by, note_of}
 use Rattle.sbp_initiator.proofs.Histories.Judging.{judging_law}
-use Rattle.sbp_world.specs.Hosts.Answering.{IsDelivering}
-use Rattle.sbp_world.specs.Hosts.Calls.{behind, by_side}
-use Rattle.sbp_world.specs.Hosts.Runs.{IsRun}
+use Rattle.sbp_world.specs.Hosts.Calls.{by_side}
 use Rattle.sbp_world.proofs.Hosts.Between.{between, carried_there}
 use Rattle.sbp_world.proofs.Hosts.Carried.{of_runs}
 use Rattle.sbp_world.proofs.Hosts.Carries.{Carries, Does, Tells, by_more}

@@ -1,10 +1,8 @@
 -- At each place of a run an initiator ignored for its slot no packet to one of its response buffers.
-use Rattle.std.proofs.Common.{◌∙◌, subst, ℕ, ◌<◌, List, length}
-use Rattle.rbc_disk.specs.Disk.{Disk}
-use Rattle.sbp_journal.specs.Run.{Moment}
-use Rattle.sbp_world.specs.Runs.{after, beginning}
-use Rattle.sbp_world.specs.Worlds.{WorldState}
-use Rattle.sbp_world.specs.Hosts.Runs.{more_deliveries}
+use Rattle.sbp_world.proofs.Words.Std.{◌∙◌, subst, ℕ, ◌<◌, List, length}
+use Rattle.sbp_world.proofs.Words.Wire.{Moment}
+use Rattle.sbp_world.proofs.Words.Target.{Disk}
+use Rattle.sbp_world.proofs.Words.World.{after, beginning, WorldState, more_deliveries}
 use Rattle.sbp_world.proofs.Hosts.Runs.{count_after, count_between}
 use Rattle.sbp_world.proofs.Lists.Courses.{EveryPlace}
 use Rattle.sbp_world.proofs.Lists.SlotShut.{AllApart, apart_between, apart_of}

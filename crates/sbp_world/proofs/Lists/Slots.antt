@@ -1,36 +1,20 @@
 -- Where a read of an agent along a list reads: in the ORB, the page table or the buffer of the slot of the ORB that it is about. And what a response to it
 -- brings is of that ORB, where the slot has it still and had it as the read was sent.
-use Rattle.std.proofs.Common.{arith, ◌≡◌, ◌∙◌, refl, sym, ap, subst, ◌<◌, ◌≤◌, ◌&&◌, ℕ, suc, ◌+◌, not, nat_lt, Bool, true, false, cond, List, [], ◌∷◌, ◌++◌, length, take, drop, slice_index_or, append_assoc, Option, Some, None}
-use Rattle.std.proofs.lemmas.Bool.Decides.{nat_tests}
-use Rattle.std.proofs.lemmas.Bool.{not-true}
-use Rattle.bus_memory.specs.Memory.{new_memory}
+use Rattle.sbp_world.proofs.Words.Std.{arith, ◌≡◌, ◌∙◌, refl, sym, ap, subst, ◌<◌, ◌≤◌, ◌&&◌, ℕ, suc, ◌+◌, not, nat_lt, Bool, true, false, cond, List, [], ◌∷◌, ◌++◌, length, take, drop, append_assoc, Option, Some, None, nat_tests, not-true}
+use Rattle.sbp_world.proofs.Words.Wire.{SerialsCount, Access, first_or, Moment, said, Sending, terms, Cmd}
+use Rattle.sbp_world.proofs.Words.Initiator.{new_memory, is_fifo, start, window_at, Answer, Payload, buffer_addresses}
+use Rattle.sbp_world.proofs.Words.Laws.{IsRead, before_sent, laid_out, rom_size, Orb, command_at, orb, prepared_in, slot_at, receiver_in, direction_of, goes_in, has_direction, host_reply, takes_writes, window_facts, appends}
+use Rattle.sbp_world.proofs.Words.World.{AllBring, Brings, Follows, IsResponse, slot_in}
+use Rattle.std.proofs.Common.{slice_index_or}
 use Rattle.bus_memory.specs.declared.window.Window.TheVariants as windows
-use Rattle.bus_memory.specs.Windows.{is_fifo, start, window_at}
 use Rattle.bus_memory.proofs.Found.{window_here}
-use Rattle.bus_transactions.specs.Packets.{SerialsCount}
-use Rattle.orb_layout.specs.Replies.{Answer, Payload}
-use Rattle.page_table.specs.Buffer.{buffer_addresses}
-use Rattle.sbp_journal.specs.Addresses.{Access}
-use Rattle.sbp_journal.specs.Rows.{first_or}
-use Rattle.sbp_journal.specs.Run.{Moment, said}
-use Rattle.sbp_journal.specs.Transactions.{Sending}
-use Rattle.sbp_journal.specs.Wire.{terms}
-use Rattle.sbp_journal.specs.declared.event.Cmd.{Cmd}
 use Rattle.sbp_journal.specs.declared.note.Note.TheVariants as notes
-use Rattle.sbp_laws.specs.CarriedBytes.{IsRead, before_sent, laid_out}
-use Rattle.sbp_laws.specs.JudgementLaw.{rom_size}
-use Rattle.sbp_laws.specs.Lists.{Orb, command_at, orb, prepared_in, slot_at}
-use Rattle.sbp_laws.specs.Packets.{receiver_in}
-use Rattle.sbp_laws.specs.Served.{direction_of, goes_in, has_direction, host_reply, takes_writes, window_facts}
-use Rattle.sbp_laws.specs.Terms.{appends}
-use Rattle.sbp_world.specs.Hosts.Carrying.{AllBring, Brings, Follows, IsResponse}
 use Rattle.sbp_world.proofs.Hosts.BytePlaces.{FillsSegments, address_at, addresses_length, laid_at, laid_room, place_of}
 use Rattle.sbp_world.proofs.Hosts.Lasting.{from_moment}
 use Rattle.sbp_world.proofs.Hosts.LastingTerms.{AllLast}
 use Rattle.sbp_world.proofs.Hosts.PreparedLasts.{prepared_then}
 use Rattle.sbp_world.proofs.Hosts.Remaining.{remains}
 use Rattle.sbp_world.proofs.Hosts.SentMoments.{sent_begins, sent_below, serials_from}
-use Rattle.sbp_world.specs.Lists.SentReads.{slot_in}
 use Rattle.sbp_world.proofs.Lists.Brought.{Comes}
 use Rattle.sbp_world.proofs.Hosts.ByteReads.{part_at, part_inside}
 

@@ -1,16 +1,10 @@
 -- The slot of an ORB whose list was cut before the ORB had ended: no ORB of that list ends from then on, so no status of it is taken, and its slot is used by it or rests while
 -- its initiator stays in the generation. So no ORB of another list was prepared in that slot.
-use Rattle.std.proofs.Common.{arith, ◌≡◌, ◌∙◌, refl, sym, ap, subst, inl, inr, ◌⊎◌, ◌<◌, ◌≤◌, ℕ, suc, nat_eq, Bool, true, false, cond, List, [], ◌∷◌, ◌++◌, Option, Some, None}
-use Rattle.std.proofs.lemmas.Bool.Decides.{nat_tests}
-use Rattle.std.proofs.lemmas.Bool.{false≢true}
+use Rattle.sbp_world.proofs.Words.Std.{arith, ◌≡◌, ◌∙◌, refl, sym, ap, subst, inl, inr, ◌⊎◌, ◌<◌, ◌≤◌, ℕ, suc, nat_eq, Bool, true, false, cond, List, [], ◌∷◌, ◌++◌, Option, Some, None, nat_tests, false≢true}
+use Rattle.sbp_world.proofs.Words.Wire.{NoteBuffer, Moment, said, terms}
+use Rattle.sbp_world.proofs.Words.Laws.{TakenStatus, lowest_vacant, orb, prepared_in, slots, taken_at, IsOpen, is_cut, ends}
+use Rattle.sbp_world.proofs.Words.World.{HasSlot}
 use Rattle.sbp_journal.specs.declared.note.Note.TheVariants as notes
-use Rattle.sbp_journal.specs.declared.note.NoteBuffer.{NoteBuffer}
-use Rattle.sbp_journal.specs.Run.{Moment, said}
-use Rattle.sbp_journal.specs.Wire.{terms}
-use Rattle.sbp_laws.specs.Lists.{TakenStatus, lowest_vacant, orb, prepared_in, slots, taken_at}
-use Rattle.sbp_laws.specs.OrderLaw.{IsOpen, is_cut}
-use Rattle.sbp_laws.specs.Terms.{ends}
-use Rattle.sbp_world.specs.Lists.SlotsStay.{HasSlot}
 use Rattle.sbp_world.proofs.Lists.DataHolds.{slot_stays}
 use Rattle.sbp_world.proofs.Lists.DataSlots.{same_orb}
 use Rattle.sbp_world.proofs.Lists.Joins.{Begins}

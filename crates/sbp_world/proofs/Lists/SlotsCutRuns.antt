@@ -1,19 +1,10 @@
 -- In every run in which no initiator injected packets, or few logins were given, of each that injected none: no ORB of an open list has the slot of an ORB whose list was cut before it ended, in the generation.
-use Rattle.std.proofs.Common.{◌≡◌, ◌∙◌, refl, sym, ap, subst, ◌<◌, ◌≤◌, ℕ, suc, Bool, true, false, List, [], length, None}
-use Rattle.std.proofs.lemmas.Bool.{false≢true}
-use Rattle.rbc_disk.specs.Disk.{Disk}
-use Rattle.sbp_journal.specs.Run.{Moment}
-use Rattle.sbp_journal.specs.Wire.{terms}
-use Rattle.sbp_laws.specs.OrderLaw.{IsOpen, is_cut}
-use Rattle.sbp_laws.specs.Lists.{prepared_in, taken_at}
-use Rattle.sbp_laws.specs.Terms.{ends}
-use Rattle.sbp_world.specs.Histories.{moments_behind}
-use Rattle.sbp_world.specs.Runs.{Run, beginning}
-use Rattle.sbp_world.specs.Worlds.{WorldState}
+use Rattle.sbp_world.proofs.Words.Std.{◌≡◌, ◌∙◌, refl, sym, ap, subst, ◌<◌, ◌≤◌, ℕ, suc, Bool, true, false, List, [], length, None, false≢true}
+use Rattle.sbp_world.proofs.Words.Wire.{Moment, terms}
+use Rattle.sbp_world.proofs.Words.Target.{Disk}
+use Rattle.sbp_world.proofs.Words.Laws.{IsOpen, is_cut, prepared_in, taken_at, ends}
+use Rattle.sbp_world.proofs.Words.World.{moments_behind, Run, beginning, WorldState, more_deliveries, Always, AreUntaken, Under, WhereTameOrFew, AllCutApart, AreCutApart, IsTameOrFew}
 use Rattle.sbp_world.proofs.Agents.Management.Still.{hist}
-use Rattle.sbp_world.specs.Hosts.Runs.{more_deliveries}
-use Rattle.sbp_world.specs.Lists.Closes.{Always, AreUntaken, Under, WhereTameOrFew}
-use Rattle.sbp_world.specs.Lists.CutSlots.{AllCutApart, AreCutApart}
 use Rattle.sbp_world.proofs.Lists.Joins.{Begins}
 use Rattle.sbp_world.proofs.Lists.Beside.{tame_or_few_before}
 use Rattle.sbp_world.proofs.Lists.Passing.{PassLaw}
@@ -22,7 +13,6 @@ use Rattle.sbp_world.proofs.Lists.SlotsCut.{open_apart, untaken_since}
 use Rattle.sbp_world.proofs.Lists.StatusRested.{Grounds}
 use Rattle.sbp_world.proofs.Lists.StatusRuns.{rises_of}
 use Rattle.sbp_world.proofs.Lists.TameWalks.{still_after, still_between}
-use Rattle.sbp_world.specs.Lists.FewLogins.{IsTameOrFew}
 use Rattle.sbp_world.proofs.Lists.UnrunTerms.{cut_stays}
 use Rattle.sbp_world.proofs.Lists.Walks.{Walks}
 use Rattle.sbp_world.proofs.Common.{delivers}

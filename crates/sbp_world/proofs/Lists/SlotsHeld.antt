@@ -1,15 +1,12 @@
 -- A slot has its ORB, used or at rest, until this ORB is over, or its initiator sees another generation: by every history, and so in every run. Until then no
 -- other ORB is prepared there.
-use Rattle.std.proofs.Common.{◌<◌, length, get_or-set_same, arith, ◌≡◌, ◌∙◌, refl, sym, ap, subst, inl, inr, ◌⊎◌, ◌==◌, ◌&&◌, not, ℕ, zero, suc, nat_eq, Bool, true, false, cond, List, [], ◌∷◌, ◌++◌, map, Some}
-use Rattle.std.specs.Prelude.{slice_index_or, slice_set}
-use Rattle.std.proofs.lemmas.Bool.Decides.{nat_tests}
-use Rattle.orb_layout.specs.StatusBlocks.{row_of}
-use Rattle.sbp_journal.specs.Run.{Moment, asked, said}
-use Rattle.sbp_journal.specs.Wire.{terms}
+use Rattle.sbp_world.proofs.Words.Std.{◌<◌, length, arith, ◌≡◌, ◌∙◌, refl, sym, ap, subst, inl, inr, ◌⊎◌, ◌==◌, ◌&&◌, not, ℕ, zero, suc, nat_eq, Bool, true, false, cond, List, [], ◌∷◌, ◌++◌, map, Some, slice_index_or, slice_set, nat_tests}
+use Rattle.sbp_world.proofs.Words.Wire.{Moment, asked, said, terms, NoteBuffer}
+use Rattle.sbp_world.proofs.Words.Initiator.{row_of}
+use Rattle.sbp_world.proofs.Words.Laws.{Orb, SlotState, freed, is_orb, is_over, is_vacant, lowest_vacant, new_slots, orb, prepared_in, put_to_rest, resting, rests_at, slots, used, vacant}
+use Rattle.sbp_world.proofs.Words.World.{HasSlot, IsGone, SlotsStayLaw, saw, was_over}
+use Rattle.std.proofs.Common.{get_or-set_same}
 use Rattle.sbp_journal.specs.declared.note.Note.TheVariants as notes
-use Rattle.sbp_world.specs.Lists.SlotsStay.{HasSlot, IsGone, SlotsStayLaw, saw, was_over}
-use Rattle.sbp_journal.specs.declared.note.NoteBuffer.{NoteBuffer}
-use Rattle.sbp_laws.specs.Lists.{Orb, SlotState, freed, is_orb, is_over, is_vacant, lowest_vacant, new_slots, orb, prepared_in, put_to_rest, resting, rests_at, slots, used, vacant}
 use Rattle.sbp_world.proofs.Common.{itself}
 
 -- ---- rows

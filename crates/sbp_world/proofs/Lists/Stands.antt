@@ -1,10 +1,8 @@
 -- An ORB of an initiator's latest list, of which no status was taken, is the one that was prepared last in its slot, one of 32.
-use Rattle.std.proofs.Common.{◌≡◌, ◌∙◌, refl, sym, ap, ◌<◌, ◌==◌, ℕ, suc, nat_eq, Bool, true, false, cond, List, [], ◌∷◌, Option, Some, None, arith}
-use Rattle.std.proofs.lemmas.Bool.Decides.{nat_tests}
-use Rattle.sbp_journal.specs.Run.{Moment, said}
+use Rattle.sbp_world.proofs.Words.Std.{◌≡◌, ◌∙◌, refl, sym, ap, ◌<◌, ◌==◌, ℕ, suc, nat_eq, Bool, true, false, cond, List, [], ◌∷◌, Option, Some, None, arith, nat_tests}
+use Rattle.sbp_world.proofs.Words.Wire.{Moment, said}
+use Rattle.sbp_world.proofs.Words.Laws.{Orb, TakenStatus, lowest_vacant, orb, prepared_in, slot_at, slots, taken_at, appends, lists}
 use Rattle.sbp_journal.specs.declared.note.Note.TheVariants as notes
-use Rattle.sbp_laws.specs.Lists.{Orb, TakenStatus, lowest_vacant, orb, prepared_in, slot_at, slots, taken_at}
-use Rattle.sbp_laws.specs.Terms.{appends, lists}
 use Rattle.sbp_world.proofs.Lists.Passing.{PassLaw}
 
 pub no : false ≡ true → ⊥

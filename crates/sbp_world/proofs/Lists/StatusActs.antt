@@ -1,40 +1,14 @@
 -- What a step of the agent of a place hands out in a call of the target, as far as status blocks go: a reply, a time-out, and a read that is asked for.
-use Rattle.std.proofs.Common.{arith, ◌≡◌, ◌∙◌, refl, sym, ap, subst, ◌<◌, ℕ, Bool, true, false, cond, List, [], ◌∷◌, ◌++◌, length, Option, Some, None}
-use Rattle.std.proofs.Math.ListN.{length-set}
-use Rattle.async_packet.specs.Packet.{Packet, header_in}
-use Rattle.command_agent.specs.declared.step.AgentStep.{AgentStep}
-use Rattle.command_agent.specs.declared.step.Which.{Which}
-use Rattle.command_agent.specs.Machine.{Machine}
+use Rattle.sbp_world.proofs.Words.Std.{arith, ◌≡◌, ◌∙◌, refl, sym, ap, subst, ◌<◌, ℕ, Bool, true, false, cond, List, [], ◌∷◌, ◌++◌, length, Option, Some, None, length-set}
+use Rattle.sbp_world.proofs.Words.Wire.{Packet, header_in, Asked, block_write, Layer, answering_step, asking_step, Outgoing, empty_outbox}
+use Rattle.sbp_world.proofs.Words.Target.{AgentStep, Which, Machine, lost_step, reply_step, Login, Table, is_live, place_at, block, Disk, disk_at, Told, Desk, Purpose, follow, taken, NodeState, Scene, desk_at, login_at, scene, with_desk, expired_by, Stage, advance, announced_by, came, changed_by, follow_all, plain_in, replied, stage, whole, answer_step, answered_by, request_step, sent_by, with_side, answered, asked_in, unsolicited_by, unsolicited_from, Announced, pushes, stay, withholds}
+use Rattle.sbp_world.proofs.Words.Initiator.{Ask, read_block, Answer}
+use Rattle.sbp_world.proofs.Words.Laws.{access_in_bytes}
+use Rattle.sbp_world.proofs.Words.World.{WorldState}
 use Rattle.command_agent.specs.Steps as steps
-use Rattle.command_agent.specs.Steps.{lost_step, reply_step}
-use Rattle.label_table.specs.declared.judgement.Asked.{Asked}
-use Rattle.label_table.specs.Bodies.{block_write}
-use Rattle.label_table.specs.Layer.{Layer, answering_step, asking_step}
-use Rattle.login_table.specs.declared.login.Login.{Login}
-use Rattle.login_table.specs.Table.{Table, is_live, place_at}
-use Rattle.media_bay.specs.Unsolicited.{block}
-use Rattle.orb_layout.specs.declared.ask.Ask.{Ask}
 use Rattle.orb_layout.specs.declared.ask.FailCause.TheVariants as causes
-use Rattle.orb_layout.specs.StatusBlocks.{read_block}
-use Rattle.orb_layout.specs.Replies.{Answer}
-use Rattle.rbc_disk.specs.Disk.{Disk, disk_at}
-use Rattle.rbc_disk.specs.Runs.{Told}
-use Rattle.sbp_journal.specs.declared.outbox.Outgoing.{Outgoing}
 use Rattle.sbp_journal.specs.declared.side.Side.TheVariants as sides
-use Rattle.sbp_journal.specs.Outgoings.{empty_outbox}
-use Rattle.sbp_laws.specs.Packets.{access_in_bytes}
-use Rattle.sbp_target.specs.declared.desk.Desk.{Desk}
-use Rattle.sbp_target.specs.declared.purpose.Purpose.{Purpose}
 use Rattle.sbp_target.specs.declared.purpose.Purpose.TheVariants as purposes
-use Rattle.sbp_target.specs.Agents.{follow}
-use Rattle.sbp_target.specs.Desks.{taken}
-use Rattle.sbp_target.specs.Nodes.{NodeState, Scene, desk_at, login_at, scene, with_desk}
-use Rattle.sbp_target.specs.Receiving.{expired_by}
-use Rattle.sbp_target.specs.Replies.{Stage, advance, announced_by, came, changed_by, follow_all, plain_in, replied, stage, whole}
-use Rattle.sbp_target.specs.Sending.{answer_step, answered_by, request_step, sent_by, with_side}
-use Rattle.sbp_target.specs.Serving.{answered, asked_in}
-use Rattle.sbp_target.specs.Units.{unsolicited_by, unsolicited_from}
-use Rattle.sbp_world.specs.Worlds.{WorldState}
 use Rattle.sbp_target.proofs.Histories.Calling.{Good}
 use Rattle.sbp_world.proofs.Lists.SameAgents.{AreSame, are_self, set_here, set_there, with_same}
 use Rattle.sbp_world.proofs.Lists.StatusBytes.{wrote}
@@ -42,7 +16,6 @@ use Rattle.sbp_world.proofs.Lists.StatusFollows.{Done, Followed, Quiet, Step, fo
 use Rattle.sbp_world.proofs.Lists.StatusPackets.{logged_more, plain_logged, EndSide, IsApart, IsFed, IsPlain, apart_named, at_other, end_of, fed_more, named_more, of_more, one_plain, or_before, reads_more, told_more, unsolicited_apart, unsolicited_small, unsolicited_unread}
 use Rattle.sbp_world.proofs.Lists.StatusReads.{IsOfBody, IsRead, answer_reads, asked_body}
 use Rattle.sbp_world.proofs.Lists.StatusSteps.{lost_leaves, replied_leaves, rests}
-use Rattle.sbp_target.specs.Histories.Moves.{Announced, pushes, stay, withholds}
 use Rattle.sbp_target.proofs.Histories.Moved.{announced_moves}
 use Rattle.sbp_target.proofs.Histories.Views.{heard_live, kept}
 

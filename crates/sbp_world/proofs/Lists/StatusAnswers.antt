@@ -1,64 +1,23 @@
 -- The bytes of an answer go to no FIFO, and to no response buffer: an agent along a list of an initiator that injected no packets writes them into the buffer that this
 -- laid out for its command, in the window of the ORB's slot; and the buffers of the slots end below those and below the FIFOs.
-use Rattle.std.proofs.Common.{arith, ◌≡◌, ◌∙◌, refl, sym, ap, subst, ◌<◌, ◌≤◌, ◌+◌, ◌*◌, ◌==◌, ◌||◌, nat_lt, ℕ, Bool, true, false, cond, List, [], ◌∷◌, length, Option, Some, None}
+use Rattle.sbp_world.proofs.Words.Std.{arith, ◌≡◌, ◌∙◌, refl, sym, ap, subst, ◌<◌, ◌≤◌, ◌+◌, ◌*◌, ◌==◌, ◌||◌, nat_lt, ℕ, Bool, true, false, cond, List, [], ◌∷◌, length, Option, Some, None, nat_tests, false≢true}
+use Rattle.sbp_world.proofs.Words.Wire.{LabelParts, Packet, header_in, judging_step, of_response, Sent, Moment, Cmd}
+use Rattle.sbp_world.proofs.Words.Target.{Login, Outcome, Disk, Held, Told, PlainDisk, Phase, AgentStep, Which, Machine, chunk_of, cut_to, limit_of, reply_step, Knows, Progress, ahead_beside, main_ask, main_beside, main_by, Keeps, end_by, heard_by, progress_by, run_by, which_in, desk_at, answer_in, plain_in}
+use Rattle.sbp_world.proofs.Words.Initiator.{IfShare, start, window_at, Ask, StatusKind, behind, Chunk, Segment, chunk_from, single, IsCommand}
+use Rattle.sbp_world.proofs.Words.Laws.{laid_out, placed, command_at, slot_at, ends, EachMoment}
+use Rattle.sbp_world.proofs.Words.World.{holder, WorldState, initiator_at, after, beginning, AreRows, HoldsOrbs, Always, IsBufferOf, orbs, IsFor, IsOpenAt, is_open_at, machine_at, AreStatuses, IsFifo, SentSo}
 use Rattle.std.specs.Prelude.{sum}
-use Rattle.std.proofs.lemmas.Bool.Decides.{nat_tests}
-use Rattle.std.proofs.lemmas.Bool.{false≢true}
-use Rattle.async_packet.specs.Labels.{LabelParts}
-use Rattle.async_packet.specs.Packet.{Packet, header_in}
 use Rattle.bus_memory.specs.declared.window.Window.TheVariants as windows
-use Rattle.bus_memory.specs.Windows.{IfShare, start, window_at}
 use Rattle.bus_memory.proofs.Found.{window_share}
-use Rattle.label_table.specs.Layer.{judging_step, of_response}
-use Rattle.login_table.specs.declared.login.Login.{Login}
-use Rattle.orb_layout.specs.declared.ask.Ask.{Ask}
 use Rattle.orb_layout.specs.declared.ask.Ask.TheVariants as asks
-use Rattle.orb_layout.specs.declared.status.StatusKind.{StatusKind}
-use Rattle.orb_list.specs.Layout.{behind}
-use Rattle.packet_store.specs.declared.sent.Sent.{Sent}
-use Rattle.page_table.specs.declared.segment.Chunk.{Chunk}
-use Rattle.page_table.specs.declared.segment.Segment.{Segment}
-use Rattle.page_table.specs.Buffer.{chunk_from, single}
-use Rattle.rbc_disk.specs.declared.command.Outcome.{Outcome}
-use Rattle.rbc_disk.specs.Disk.{Disk}
-use Rattle.rbc_disk.specs.Held.{Held}
-use Rattle.rbc_disk.specs.Runs.{Told}
-use Rattle.rbc_disk.specs.Units.{PlainDisk}
-use Rattle.command_agent.specs.declared.phase.Phase.{Phase}
 use Rattle.command_agent.specs.declared.phase.Phase.TheVariants as phases
-use Rattle.command_agent.specs.declared.step.AgentStep.{AgentStep}
-use Rattle.command_agent.specs.declared.step.Which.{Which}
-use Rattle.command_agent.specs.Machine.{Machine, chunk_of, cut_to, limit_of}
-use Rattle.command_agent.specs.Steps.{reply_step}
-use Rattle.agent_laws.specs.Along.Along.{Knows, Progress}
-use Rattle.agent_laws.specs.Along.Requests.{ahead_beside, main_ask, main_beside, main_by}
-use Rattle.agent_laws.specs.Along.Steps.{Keeps, end_by, heard_by, progress_by, run_by}
 use Rattle.agent_laws.proofs.Along.Writes.{keeps_along}
-use Rattle.sbp_initiator.specs.Commands.{IsCommand}
-use Rattle.sbp_journal.specs.Run.{Moment}
-use Rattle.sbp_journal.specs.declared.event.Cmd.{Cmd}
-use Rattle.sbp_laws.specs.CarriedBytes.{laid_out, placed}
-use Rattle.sbp_laws.specs.Lists.{command_at, slot_at}
-use Rattle.sbp_laws.specs.Terms.{ends}
-use Rattle.sbp_laws.specs.Turns.{EachMoment}
 use Rattle.sbp_target.specs.declared.purpose.Purpose.TheVariants as purposes
-use Rattle.sbp_target.specs.Desks.{which_in}
-use Rattle.sbp_target.specs.Nodes.{desk_at}
-use Rattle.sbp_target.specs.Receiving.{answer_in}
-use Rattle.sbp_target.specs.Replies.{plain_in}
-use Rattle.sbp_world.specs.Telling.{holder}
-use Rattle.sbp_world.specs.Worlds.{WorldState, initiator_at}
-use Rattle.sbp_world.specs.Runs.{after, beginning}
 use Rattle.sbp_world.proofs.Agents.Management.Still.{hist}
-use Rattle.sbp_world.specs.Hosts.Fits.{AreRows}
-use Rattle.sbp_world.specs.Hosts.Orbs.{HoldsOrbs}
 use Rattle.sbp_world.proofs.Hosts.BytePlaces.{total as sum_more}
 use Rattle.sbp_world.proofs.Hosts.Orbs.{orbs_law}
 use Rattle.sbp_world.proofs.Hosts.Runs.{count_after, count_between}
-use Rattle.sbp_world.specs.Lists.Closes.{Always}
-use Rattle.sbp_world.specs.Lists.Lists.{IsBufferOf, orbs}
-use Rattle.sbp_world.specs.Lists.Needs.{IsFor, IsOpenAt, is_open_at, machine_at}
-use Rattle.sbp_world.specs.Lists.Statuses.{AreStatuses, IsFifo, SentSo, of_login, of_place}
+use Rattle.sbp_world.specs.Lists.Statuses.{of_login, of_place}
 use Rattle.sbp_world.proofs.Lists.Deliveries.{waits_has}
 use Rattle.sbp_world.proofs.Lists.Lists.{laid}
 use Rattle.sbp_world.proofs.Lists.Passing.{GoesOn}

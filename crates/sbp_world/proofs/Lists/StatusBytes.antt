@@ -1,26 +1,12 @@
 -- What a request of the target writes, by its bytes: those of its body, at its address; and what is read of a status block that was written: its ORB, its src, and
 -- its kind where that has a row.
-use Rattle.std.proofs.Common.{arith, ◌≡◌, ◌∙◌, refl, sym, ap, subst, ◌<◌, ◌≤◌, ◌+◌, ◌*◌, ◌/◌, ◌%◌, ◌^◌, ◌==◌, ◌&&◌, nat_lt, ℕ, Bool, true, false, cond, List, [], ◌∷◌, ◌++◌, length, Option, Some, None, Result, Ok, Err}
+use Rattle.sbp_world.proofs.Words.Std.{arith, ◌≡◌, ◌∙◌, refl, sym, ap, subst, ◌<◌, ◌≤◌, ◌+◌, ◌*◌, ◌/◌, ◌%◌, ◌^◌, ◌==◌, ◌&&◌, nat_lt, ℕ, Bool, true, false, cond, List, [], ◌∷◌, ◌++◌, length, Option, Some, None, Result, Ok, Err, false≢true, none-some}
+use Rattle.sbp_world.proofs.Words.Wire.{PacketFault, canon, four, with_pad, length_of, offset_of, tcode_of, fault_of, packet_in, payload_in, reading, unless_fault, block_write, header_to, request_with, with_label, Access}
+use Rattle.sbp_world.proofs.Words.Initiator.{OrbFault, Form, Length, StatusBlock, StatusKind, offset_at, IsKind, command_kind, dead_of, has, illegal_meanings, in_row, is_among, is_check_part, is_management, kind_of, len_of, read_block, resp_of, sbp_status_of, src_of, status_bytes, whole_length}
+use Rattle.sbp_world.proofs.Words.Laws.{access_in, access_in_bytes, spelled_by}
 use Rattle.std.specs.Prelude.{drop, take}
-use Rattle.std.proofs.lemmas.Bool.{false≢true}
-use Rattle.std.proofs.lemmas.Option.{none-some}
-use Rattle.async_packet.specs.declared.fault.PacketFault.{PacketFault}
-use Rattle.async_packet.specs.Canon.{canon, four, with_pad}
-use Rattle.async_packet.specs.Fields.{length_of, offset_of, tcode_of}
-use Rattle.async_packet.specs.Faults.{fault_of}
-use Rattle.async_packet.specs.Reading.{packet_in, payload_in, reading, unless_fault}
-use Rattle.label_table.specs.Bodies.{block_write, header_to, request_with}
-use Rattle.label_table.specs.Requests.{with_label}
-use Rattle.orb_layout.specs.declared.fault.OrbFault.{OrbFault}
-use Rattle.orb_layout.specs.declared.fault.OrbFault.TheVariants.{Form, Length}
-use Rattle.orb_layout.specs.declared.status.StatusBlock.{StatusBlock}
-use Rattle.orb_layout.specs.declared.status.StatusKind.{StatusKind}
 use Rattle.orb_layout.specs.declared.status.StatusKind.TheVariants as kinds
-use Rattle.orb_layout.specs.Pointers.{offset_at}
-use Rattle.orb_layout.specs.StatusBlocks.{IsKind, command_kind, dead_of, has, illegal_meanings, in_row, is_among, is_check_part, is_management, kind_of, len_of, read_block, resp_of, sbp_status_of, src_of, status_bytes, whole_length}
 use Rattle.orb_layout.proofs.StatusBack.{status_back}
-use Rattle.sbp_journal.specs.Addresses.{Access}
-use Rattle.sbp_laws.specs.Packets.{access_in, access_in_bytes, spelled_by}
 use Rattle.sbp_world.specs.Lists.Statuses.{IsTold}
 use Rattle.sbp_world.proofs.Lists.StatusSteps.{IsFair}
 

@@ -1,38 +1,13 @@
 -- A call of the target keeps that the last ORB of a list stands in its slot while its agent is at the end of the list: where the agent was there before, and where the ORB
 -- ended in this call with a null next pointer, which its status block tells.
-use Rattle.std.proofs.Common.{arith, ◌≡◌, ◌∙◌, refl, sym, ap, subst, ◌<◌, ◌≤◌, ℕ, suc, nat_eq, Bool, true, false, List, [], ◌∷◌, ◌++◌, map, Option, Some, None}
-use Rattle.std.proofs.lemmas.Bool.Decides.{nat_tests}
-use Rattle.std.proofs.lemmas.Bool.{false≢true}
-use Rattle.bus_transactions.specs.Packets.{SerialsCount}
-use Rattle.command_agent.specs.declared.phase.Phase.{Phase}
+use Rattle.sbp_world.proofs.Words.Std.{arith, ◌≡◌, ◌∙◌, refl, sym, ap, subst, ◌<◌, ◌≤◌, ℕ, suc, nat_eq, Bool, true, false, List, [], ◌∷◌, ◌++◌, map, Option, Some, None, nat_tests, false≢true}
+use Rattle.sbp_world.proofs.Words.Wire.{SerialsCount, Layer, topology_at, holder_at, Note, Moment, said, terms}
+use Rattle.sbp_world.proofs.Words.Target.{Phase, Machine, Login, Purpose, NodeState, TargetScene, desk_at}
+use Rattle.sbp_world.proofs.Words.Initiator.{OrbPointer}
+use Rattle.sbp_world.proofs.Words.Laws.{orb, prepared_in, present_list, taken_at, EndedOrb, is_due, status_due, appends, ends, lists, EachMoment}
+use Rattle.sbp_world.proofs.Words.World.{handed_out, holder, ticket_of, told_all, WorldState, initiator_at, has_list, AreRows, AreOthers, Lasts, AreNamed, machine_at, AllOf, of_rest, TakenSo}
 use Rattle.command_agent.specs.declared.phase.Phase.TheVariants as phases
-use Rattle.command_agent.specs.Machine.{Machine}
-use Rattle.label_table.specs.Layer.{Layer}
-use Rattle.login_table.specs.declared.login.Login.{Login}
-use Rattle.orb_layout.specs.declared.pointer.OrbPointer.{OrbPointer}
-use Rattle.sbp_bus.specs.Generations.{topology_at}
-use Rattle.sbp_bus.specs.Places.{holder_at}
-use Rattle.sbp_journal.specs.declared.note.Note.{Note}
-use Rattle.sbp_journal.specs.Run.{Moment, said}
-use Rattle.sbp_journal.specs.Wire.{terms}
-use Rattle.sbp_laws.specs.Lists.{orb, prepared_in, present_list, taken_at}
-use Rattle.sbp_laws.specs.StatusLaw.{EndedOrb, is_due, status_due}
-use Rattle.sbp_laws.specs.Terms.{appends, ends, lists}
-use Rattle.sbp_laws.specs.Turns.{EachMoment}
-use Rattle.sbp_target.specs.declared.purpose.Purpose.{Purpose}
-use Rattle.sbp_target.specs.Nodes.{NodeState, Scene as TargetScene, desk_at}
-use Rattle.sbp_world.specs.Handing.{handed_out}
-use Rattle.sbp_world.specs.Telling.{holder, ticket_of, told_all}
-use Rattle.sbp_world.specs.Worlds.{WorldState, initiator_at}
-use Rattle.sbp_world.specs.Agents.Alike.{has_list}
 use Rattle.sbp_world.proofs.Agents.Management.Still.{hist}
-use Rattle.sbp_world.specs.Hosts.Fits.{AreRows}
-use Rattle.sbp_world.specs.Hosts.Handing.{AreOthers}
-use Rattle.sbp_world.specs.Hosts.Lasting.{Lasts}
-use Rattle.sbp_world.specs.Lists.Names.{AreNamed}
-use Rattle.sbp_world.specs.Lists.Needs.{machine_at}
-use Rattle.sbp_world.specs.Lists.Opened.{AllOf, of_rest}
-use Rattle.sbp_world.specs.Lists.Statuses.{TakenSo}
 use Rattle.sbp_world.proofs.Lists.Adds.{all_stay}
 use Rattle.sbp_world.proofs.Lists.Joins.{Begins}
 use Rattle.sbp_world.proofs.Lists.OpenCuts.{is_up}

@@ -1,70 +1,26 @@
 -- What each call of the target hands out, as far as status blocks go: nothing that writes, and no end is told; or the agent of one place made a step, and its
 -- status block is the first packet that writes; or the management goes on.
-use Rattle.std.proofs.Common.{arith, ◌≡◌, ◌∙◌, refl, sym, ap, subst, ◌<◌, ◌≤◌, ◌^◌, nat_lt, nat_eq, ℕ, zero, suc, Bool, true, false, cond, List, [], ◌∷◌, length, Option, Some, None, Result, Ok, Err}
-use Rattle.std.specs.Prelude.{slice_index_or}
-use Rattle.std.proofs.lemmas.Bool.Decides.{nat_tests}
-use Rattle.std.proofs.Math.ListN.{length-set}
-use Rattle.std.proofs.lemmas.Bool.{false≢true}
-use Rattle.std.proofs.lemmas.Option.{none-some}
-use Rattle.async_packet.specs.Labels.{LabelParts}
-use Rattle.async_packet.specs.Packet.{Packet, header_in}
-use Rattle.command_agent.specs.declared.phase.Phase.{Phase}
+use Rattle.sbp_world.proofs.Words.Std.{arith, ◌≡◌, ◌∙◌, refl, sym, ap, subst, ◌<◌, ◌≤◌, ◌^◌, nat_lt, nat_eq, ℕ, zero, suc, Bool, true, false, cond, List, [], ◌∷◌, length, Option, Some, None, Result, Ok, Err, slice_index_or, nat_tests, length-set, false≢true, none-some}
+use Rattle.sbp_world.proofs.Words.Wire.{LabelParts, Packet, header_in, Asked, block_read, Finding, Layer, answering_step, asking_step, judging_step, of_again, of_generation, of_grammar, of_label, of_request, of_response, Sent, Judged, empty_outbox}
+use Rattle.sbp_world.proofs.Words.Target.{Phase, AgentState, PointRefusal, Which, Machine, present_of, state_in, doorbell_step, is_reset, lost_step, point_in, point_step, reply_step, Login, Table, ManagerStep, Operation, Held, Told, address_error, complete, conflict_error, demand_of, if_served, Access, Demand, Desk, Purpose, ask_main, cut, follow, noted, send_ahead, told_cut, new_desk, pointed_desk, which_in, ask_manager, lose_operation, lost_in, manage, manager_lost, manager_sent, tell_failed, NodeState, Scene, desk_at, login_at, scene, with_agent, with_desk, answer_in, concluded, expire_agent, expired_by, received, received_as, timed_out, Whole, plain_in, replied_by, replied_to, served_login, whole, answer_step, answered_by, request_step, sent_by, with_side, accessed_by, answered, asked_in, enabled, is_barred, point, pointed_by, rcode_of, serving_step, ring, serve, served_as, start, started_by, orb_of, tell_step}
+use Rattle.sbp_world.proofs.Words.Initiator.{Ask, FailCause, OrbPointer, Null, At, Answer, Expired, NoLabel}
+use Rattle.sbp_world.proofs.Words.World.{whole_of, WorldState, has_list}
 use Rattle.command_agent.specs.declared.phase.Phase.TheVariants as phases
-use Rattle.command_agent.specs.declared.step.AgentState.{AgentState}
 use Rattle.command_agent.specs.declared.step.AgentState.TheVariants as states
-use Rattle.command_agent.specs.declared.step.PointRefusal.{PointRefusal}
-use Rattle.command_agent.specs.declared.step.Which.{Which}
-use Rattle.command_agent.specs.Machine.{Machine, present_of, state_in}
 use Rattle.command_agent.specs.Steps as steps
-use Rattle.command_agent.specs.Steps.{doorbell_step, is_reset, lost_step, point_in, point_step, reply_step}
-use Rattle.label_table.specs.declared.judgement.Asked.{Asked}
-use Rattle.label_table.specs.Bodies.{block_read}
-use Rattle.label_table.specs.Layer.{Finding, Layer, answering_step, asking_step, judging_step, of_again, of_generation, of_grammar, of_label, of_request, of_response}
-use Rattle.login_table.specs.declared.login.Login.{Login}
-use Rattle.login_table.specs.Table.{Table}
-use Rattle.mgmt_agent.specs.declared.decision.ManagerStep.{ManagerStep}
-use Rattle.mgmt_agent.specs.declared.operation.Operation.{Operation}
 use Rattle.mgmt_agent.specs.declared.operation.Phase.TheVariants as operating
 use Rattle.mgmt_agent.specs.Machine as management
-use Rattle.orb_layout.specs.declared.ask.Ask.{Ask}
 use Rattle.orb_layout.specs.declared.ask.Ask.TheVariants as asks
-use Rattle.orb_layout.specs.declared.ask.FailCause.{FailCause}
 use Rattle.orb_layout.specs.declared.ask.FailCause.TheVariants as causes
-use Rattle.orb_layout.specs.declared.pointer.OrbPointer.{OrbPointer}
-use Rattle.orb_layout.specs.declared.pointer.OrbPointer.TheVariants.{Null, At}
-use Rattle.orb_layout.specs.Replies.{Answer, Expired, NoLabel}
-use Rattle.packet_store.specs.declared.sent.Sent.{Sent}
-use Rattle.rbc_disk.specs.Held.{Held}
-use Rattle.rbc_disk.specs.Runs.{Told}
 use Rattle.sbp_journal.specs.declared.cause.Cause.TheVariants as ignored
 use Rattle.sbp_journal.specs.declared.cause.CutCause.TheVariants as cuts
-use Rattle.sbp_journal.specs.declared.cause.Judged.{Judged}
 use Rattle.sbp_journal.specs.declared.cause.Judged.TheVariants as judgements
 use Rattle.sbp_journal.specs.declared.side.Side.TheVariants as sides
-use Rattle.sbp_journal.specs.Outgoings.{empty_outbox}
-use Rattle.target_base.specs.Addresses.{address_error, complete, conflict_error, demand_of}
-use Rattle.target_base.specs.Logins.{if_served}
-use Rattle.target_base.specs.declared.address.Access.{Access}
 use Rattle.target_base.specs.declared.address.Access.TheVariants as accesses
-use Rattle.target_base.specs.declared.address.Demand.{Demand}
 use Rattle.target_base.specs.declared.address.Demand.TheVariants as demands
-use Rattle.sbp_target.specs.declared.desk.Desk.{Desk}
-use Rattle.sbp_target.specs.declared.purpose.Purpose.{Purpose}
 use Rattle.sbp_target.specs.declared.purpose.Purpose.TheVariants as purposes
-use Rattle.sbp_target.specs.Agents.{ask_main, cut, follow, noted, send_ahead, told_cut}
-use Rattle.sbp_target.specs.Desks.{new_desk, pointed_desk, which_in}
-use Rattle.sbp_target.specs.Management.{ask_manager, lose_operation, lost_in, manage, manager_lost, manager_sent, tell_failed}
-use Rattle.sbp_target.specs.Nodes.{NodeState, Scene, desk_at, login_at, scene, with_agent, with_desk}
-use Rattle.sbp_target.specs.Receiving.{answer_in, concluded, expire_agent, expired_by, received, received_as, timed_out}
-use Rattle.sbp_target.specs.Replies.{Whole, plain_in, replied_by, replied_to, served_login, whole}
-use Rattle.sbp_target.specs.Sending.{answer_step, answered_by, request_step, sent_by, with_side}
-use Rattle.sbp_target.specs.Serving.{accessed_by, answered, asked_in, enabled, is_barred, point, pointed_by, rcode_of, request_step as serving_step, ring, serve, served_as, start, started_by}
-use Rattle.sbp_target.specs.Telling.{orb_of, tell_step}
-use Rattle.sbp_world.specs.Delivering.{whole_of}
-use Rattle.sbp_world.specs.Worlds.{WorldState}
 use Rattle.sbp_target.proofs.Histories.Calling.{Good}
 use Rattle.sbp_target.proofs.Histories.Settled.{reaches}
-use Rattle.sbp_world.specs.Agents.Alike.{has_list}
 use Rattle.sbp_world.proofs.Lists.SameAgents.{set_here, set_there}
 use Rattle.sbp_world.proofs.Lists.Pointers.{refused, not_taken}
 use Rattle.sbp_world.proofs.Lists.StatusActs.{Acts, M, answered_quiet, asked_acts, first, late_acts, reply_acts, there}

@@ -1,31 +1,16 @@
 -- The values of each check that a command may end with on the plain disk are in their ranges; and so are those of the status with which an ORB ended, by the execution law.
-use Rattle.std.proofs.Common.{arith, ◌≡◌, refl, sym, ap, subst, ◌<◌, ◌^◌, ◌==◌, nat_eq, nat_lt, ◌∙◌, ℕ, suc, Bool, true, false, cond, List, [], ◌∷◌, Option, Some, None, IsSomeAnd, Result, Ok, Err, is_none, not, ◌&&◌}
-use Rattle.orb_layout.specs.declared.status.StatusKind.{StatusKind}
+use Rattle.sbp_world.proofs.Words.Std.{arith, ◌≡◌, refl, sym, ap, subst, ◌<◌, ◌^◌, ◌==◌, nat_eq, nat_lt, ◌∙◌, ℕ, suc, Bool, true, false, cond, List, [], ◌∷◌, Option, Some, None, IsSomeAnd, Result, Ok, Err, not, ◌&&◌, nat_tests, same_Some, none-some}
+use Rattle.sbp_world.proofs.Words.Wire.{Moment, said, terms}
+use Rattle.sbp_world.proofs.Words.Target.{command_by, command_in, count_of_ten, count_of_twelve, flag, lba_of, moves_disc, operation_in, starts, unless_bad, bad_field, medium_changed, no_command, no_medium, not_started, outside, is_protected, read_failed, removal_prevented, was_reset, write_failed, Command, Sense, check_if, check_of, field_check, first_of, mark_check, request_check, told_marks, tray_check, is_eject, is_inquiry, is_outside, is_start_stop, is_unfit, is_write, needs_medium, plain_request, request_of, MayEnd, failure_by, failure_in, failure_of, PlainDisk, has_place, BufferPlan, Request, Disk}
+use Rattle.sbp_world.proofs.Words.Initiator.{StatusKind}
+use Rattle.sbp_world.proofs.Words.Laws.{ExecutionLaw, MayEndWith, RunsOn, id_for, place_on, plain_of, target_at, Asked, ended_status, ran_status, request_at, status_of}
+use Rattle.std.proofs.Common.{is_none}
 use Rattle.orb_layout.specs.declared.status.StatusKind.TheVariants as kinds
-use Rattle.rbc_command.specs.Commands.{command_by, command_in, count_of_ten, count_of_twelve, flag, lba_of, moves_disc, operation_in, starts, unless_bad}
-use Rattle.rbc_command.specs.SenseData.{bad_field, medium_changed, no_command, no_medium, not_started, outside, is_protected, read_failed, removal_prevented, was_reset, write_failed}
-use Rattle.rbc_command.specs.declared.command.Command.{Command}
 use Rattle.rbc_command.specs.declared.command.Command.TheVariants as commands
 use Rattle.rbc_command.specs.declared.operation.Operation.{Operation}
 use Rattle.rbc_command.specs.declared.operation.Operation.TheVariants as operations
-use Rattle.rbc_command.specs.declared.sense.Sense.{Sense}
-use Rattle.rbc_disk.specs.Checks.{check_if, check_of, field_check, first_of, mark_check, request_check, told_marks, tray_check}
-use Rattle.rbc_disk.specs.Requests.{is_eject, is_inquiry, is_outside, is_start_stop, is_unfit, is_write, needs_medium, plain_request, request_of}
-use Rattle.rbc_disk.specs.Runs.{MayEnd, failure_by, failure_in, failure_of}
-use Rattle.rbc_disk.specs.Units.{PlainDisk, has_place}
-use Rattle.rbc_disk.specs.declared.command.BufferPlan.{BufferPlan}
-use Rattle.rbc_disk.specs.declared.request.Request.{Request}
 use Rattle.rbc_disk.specs.declared.request.Request.TheVariants as requests
-use Rattle.rbc_disk.specs.Disk.{Disk}
-use Rattle.sbp_journal.specs.Run.{Moment, said}
 use Rattle.sbp_journal.specs.declared.note.Note.TheVariants as notes
-use Rattle.sbp_laws.specs.ExecutionLaw.{ExecutionLaw, MayEndWith, RunsOn}
-use Rattle.sbp_journal.specs.Wire.{terms}
-use Rattle.sbp_laws.specs.Packets.{id_for}
-use Rattle.sbp_laws.specs.Targets.{place_on, plain_of, target_at}
-use Rattle.sbp_laws.specs.Terms.{Request as Asked, ended_status, ran_status, request_at, status_of}
-use Rattle.std.proofs.lemmas.Bool.Decides.{nat_tests}
-use Rattle.std.proofs.lemmas.Option.{same_Some, none-some}
 use Rattle.sbp_world.specs.Lists.Statuses.{IsTold}
 
 -- ---- checks

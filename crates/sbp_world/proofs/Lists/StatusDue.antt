@@ -1,52 +1,20 @@
 -- Each step of an agent along a list of an initiator names an ORB in a slot, and reads ahead alone; so what it hands out is as the calls of the target have it, where
 -- the bytes of an answer are written to no FIFO.
-use Rattle.std.proofs.Common.{arith, ◌≡◌, ◌∙◌, refl, ◌<◌, ◌^◌, nat_eq, ℕ, Bool, true, false, cond, is_some, List, [], ◌∷◌, length, Option, Some, None, IfSome, Result, Ok, Err}
-use Rattle.std.proofs.lemmas.Bool.{false≢true}
-use Rattle.async_packet.specs.Labels.{LabelParts}
-use Rattle.async_packet.specs.Packet.{Packet, header_in}
-use Rattle.label_table.specs.Layer.{Layer, judging_step, of_request, of_response}
-use Rattle.login_table.specs.declared.login.Login.{Login}
-use Rattle.orb_layout.specs.declared.ask.Ask.{Ask}
+use Rattle.sbp_world.proofs.Words.Std.{arith, ◌≡◌, ◌∙◌, refl, ◌<◌, ◌^◌, nat_eq, ℕ, Bool, true, false, cond, is_some, List, [], ◌∷◌, length, Option, Some, None, IfSome, Result, Ok, Err, false≢true}
+use Rattle.sbp_world.proofs.Words.Wire.{LabelParts, Packet, header_in, Layer, judging_step, of_request, of_response, Sent, Moment, said}
+use Rattle.sbp_world.proofs.Words.Target.{Login, Disk, Told, PlainDisk, Phase, AgentStep, PointRefusal, Which, Machine, doorbell_step, lost_step, point_step, reply_step, Along, Knows, Progress, OrbList, ahead_beside, main_ask, main_beside, IsEnd, Keeps, PointerBrings, disk, Purpose, which_in, desk_at, answer_in, plain_in, is_barred, demand_of}
+use Rattle.sbp_world.proofs.Words.Initiator.{Ask, OrbPointer, StatusKind}
+use Rattle.sbp_world.proofs.Words.Laws.{lowest_vacant, slot_at, slots}
+use Rattle.sbp_world.proofs.Words.World.{holder, WorldState, has_list, orbs, IsFor, machine_at}
 use Rattle.orb_layout.specs.declared.ask.Ask.TheVariants as asks
 use Rattle.orb_layout.specs.declared.ask.FailCause.TheVariants as causes
-use Rattle.orb_layout.specs.declared.pointer.OrbPointer.{OrbPointer}
-use Rattle.orb_layout.specs.declared.status.StatusKind.{StatusKind}
-use Rattle.packet_store.specs.declared.sent.Sent.{Sent}
-use Rattle.rbc_disk.specs.Disk.{Disk}
-use Rattle.rbc_disk.specs.Runs.{Told}
-use Rattle.rbc_disk.specs.Units.{PlainDisk}
-use Rattle.command_agent.specs.declared.phase.Phase.{Phase}
 use Rattle.command_agent.specs.declared.phase.Phase.TheVariants as phases
-use Rattle.command_agent.specs.declared.step.AgentStep.{AgentStep}
-use Rattle.command_agent.specs.declared.step.PointRefusal.{PointRefusal}
-use Rattle.command_agent.specs.declared.step.Which.{Which}
-use Rattle.command_agent.specs.Machine.{Machine}
-use Rattle.command_agent.specs.Steps.{doorbell_step, lost_step, point_step, reply_step}
-use Rattle.agent_laws.specs.Along.Along.{Along, Knows, Progress}
-use Rattle.agent_laws.specs.Along.Lists.{OrbList}
-use Rattle.agent_laws.specs.Along.Requests.{ahead_beside, main_ask, main_beside}
-use Rattle.agent_laws.specs.Along.Steps.{IsEnd, Keeps, PointerBrings}
-use Rattle.agent_laws.specs.Along.Tried.{disk}
 use Rattle.agent_laws.proofs.Along.Writes.{keeps_along}
-use Rattle.sbp_journal.specs.Run.{Moment, said}
 use Rattle.sbp_journal.specs.declared.note.Note.TheVariants as notes
-use Rattle.sbp_laws.specs.Lists.{lowest_vacant, slot_at, slots}
-use Rattle.sbp_target.specs.declared.purpose.Purpose.{Purpose}
 use Rattle.sbp_target.specs.declared.purpose.Purpose.TheVariants as purposes
-use Rattle.sbp_target.specs.Desks.{which_in}
-use Rattle.sbp_target.specs.Nodes.{desk_at}
-use Rattle.sbp_target.specs.Receiving.{answer_in}
-use Rattle.sbp_target.specs.Replies.{plain_in}
-use Rattle.sbp_target.specs.Serving.{is_barred}
-use Rattle.sbp_world.specs.Telling.{holder}
-use Rattle.sbp_world.specs.Worlds.{WorldState}
 use Rattle.target_base.specs.declared.address.Access.TheVariants as accesses
 use Rattle.target_base.specs.declared.address.Demand.TheVariants as demands
-use Rattle.target_base.specs.Addresses.{demand_of}
-use Rattle.sbp_world.specs.Agents.Alike.{has_list}
 use Rattle.sbp_world.proofs.Agents.Management.Still.{hist}
-use Rattle.sbp_world.specs.Lists.Lists.{orbs}
-use Rattle.sbp_world.specs.Lists.Needs.{IsFor, machine_at}
 use Rattle.sbp_world.proofs.Lists.Deliveries.{waits_has}
 use Rattle.sbp_world.proofs.Lists.Lists.{laid}
 use Rattle.sbp_world.proofs.Lists.Passing.{GoesOn, PassLaw}

@@ -1,27 +1,14 @@
 -- What a call of the target leaves of the ends of ORBs: with no end told they stay, and an end of an agent of another initiator leaves them; behind the end that was told
 -- last its ORB is the last that ended. And where the agent is at the end of its list then, the status block that leaves has src 1.
-use Rattle.std.proofs.Common.{arith, ◌≡◌, ◌∙◌, refl, sym, ap, subst, ◌==◌, ◌&&◌, ℕ, suc, nat_eq, Bool, true, false, cond, List, [], ◌∷◌, Option, Some, None}
-use Rattle.std.proofs.lemmas.Bool.Decides.{nat_tests}
-use Rattle.std.proofs.lemmas.Bool.{false≢true}
-use Rattle.std.proofs.lemmas.Option.{none-some, same_Some}
-use Rattle.command_agent.specs.Machine.{Machine}
-use Rattle.orb_layout.specs.declared.status.StatusKind.{StatusKind}
-use Rattle.orb_list.specs.Tickets.{TicketParts}
-use Rattle.sbp_bus.specs.Generations.{GenerationsState, node_of, topology_at}
-use Rattle.sbp_bus.specs.Telling.{list_in, orb_in}
+use Rattle.sbp_world.proofs.Words.Std.{arith, ◌≡◌, ◌∙◌, refl, sym, ap, subst, ◌==◌, ◌&&◌, ℕ, suc, nat_eq, Bool, true, false, cond, List, [], ◌∷◌, Option, Some, None, nat_tests, false≢true, none-some, same_Some}
+use Rattle.sbp_world.proofs.Words.Wire.{GenerationsState, node_of, topology_at, list_in, orb_in, Outgoing, Side, Moment, asked, said}
+use Rattle.sbp_world.proofs.Words.Target.{Machine}
+use Rattle.sbp_world.proofs.Words.Initiator.{StatusKind, TicketParts}
+use Rattle.sbp_world.proofs.Words.Laws.{orb, EndedOrb, is_due, status_due, ends}
+use Rattle.sbp_world.proofs.Words.World.{sent, sent_all, holder, told, told_all, WorldState, AreOthers}
 use Rattle.sbp_journal.specs.declared.note.Note.TheVariants as notes
-use Rattle.sbp_journal.specs.declared.outbox.Outgoing.{Outgoing}
-use Rattle.sbp_journal.specs.declared.side.Side.{Side}
 use Rattle.sbp_journal.specs.declared.side.Side.TheVariants as sides
-use Rattle.sbp_journal.specs.Run.{Moment, asked, said}
-use Rattle.sbp_laws.specs.Lists.{orb}
-use Rattle.sbp_laws.specs.StatusLaw.{EndedOrb, is_due, status_due}
-use Rattle.sbp_laws.specs.Terms.{ends}
-use Rattle.sbp_world.specs.Sending.{sent, sent_all}
-use Rattle.sbp_world.specs.Telling.{holder, told, told_all}
-use Rattle.sbp_world.specs.Worlds.{WorldState}
 use Rattle.sbp_world.proofs.Agents.Management.Still.{hist}
-use Rattle.sbp_world.specs.Hosts.Handing.{AreOthers}
 use Rattle.sbp_world.proofs.Lists.Passing.{PassLaw}
 use Rattle.sbp_world.proofs.Lists.StatusNull.{AreNull, NullAt}
 use Rattle.sbp_world.proofs.Lists.StatusPackets.{AllPlain, AreOf, EndSide, IsOf, IsPlain, OfEnd, Spelled, one_end, read_plain, sends_none, sends_read, sends_write, told_end}

@@ -1,40 +1,15 @@
 -- What follows a step of the agent of a place, as far as status blocks go: where the step ends an ORB its status block is the first packet that writes; where the
 -- step's request finds no label, the ORB ends, and its status block is it; and what an agent writes else is no status block.
-use Rattle.std.proofs.Common.{arith, ◌≡◌, ◌∙◌, ◌⊎◌, inl, inr, refl, sym, ap, subst, ◌<◌, ◌≤◌, ◌^◌, nat_le, is_some, ℕ, Bool, true, false, cond, List, [], ◌∷◌, ◌++◌, length, Option, Some, None, IfSome, Ok}
-use Rattle.std.proofs.lemmas.Bool.Decides.{nat_tests}
-use Rattle.std.proofs.Math.ListN.{length-set}
-use Rattle.std.proofs.lemmas.Bool.{false≢true}
-use Rattle.std.proofs.lemmas.Option.{same_Some, none-some}
-use Rattle.async_packet.specs.Labels.{LabelParts}
+use Rattle.sbp_world.proofs.Words.Std.{arith, ◌≡◌, ◌∙◌, ◌⊎◌, inl, inr, refl, sym, ap, subst, ◌<◌, ◌≤◌, ◌^◌, nat_le, is_some, ℕ, Bool, true, false, cond, List, [], ◌∷◌, ◌++◌, length, Option, Some, None, IfSome, Ok, nat_tests, length-set, false≢true, same_Some, none-some}
+use Rattle.sbp_world.proofs.Words.Wire.{LabelParts, Asked, Body, block_read, block_write, quadlet_read, quadlet_write, Layer, asking_step, Access, Outgoing, OutboxState}
+use Rattle.sbp_world.proofs.Words.Target.{AgentStep, Ahead, Main, Machine, is_sent, is_under_way, lost_step, quiet, Login, Desk, Purpose, after_ahead, after_loss, after_main, agent_body, ahead_asked, ahead_sent, ask_main, follow, lose, lose_main, lost_by, main_asked, main_sent, noted, send_ahead, NodeState, Scene, desk_at, scene, with_agent, with_desk, request_step, sent_by, orb_of, tell_step}
+use Rattle.sbp_world.proofs.Words.Initiator.{window_at, Ask, StatusBlock, StatusKind, read_block}
+use Rattle.sbp_world.proofs.Words.Laws.{access_in_bytes}
+use Rattle.sbp_world.proofs.Words.World.{has_list, IsFifo, IsStatusWrite}
 use Rattle.bus_memory.specs.declared.window.Window.TheVariants as windows
-use Rattle.bus_memory.specs.Windows.{window_at}
-use Rattle.command_agent.specs.declared.step.AgentStep.{AgentStep}
-use Rattle.command_agent.specs.declared.step.Which.TheVariants.{Ahead, Main}
-use Rattle.command_agent.specs.Machine.{Machine, is_sent, is_under_way}
-use Rattle.command_agent.specs.Steps.{lost_step, quiet}
-use Rattle.label_table.specs.declared.judgement.Asked.{Asked}
-use Rattle.label_table.specs.Bodies.{Body, block_read, block_write, quadlet_read, quadlet_write}
-use Rattle.label_table.specs.Layer.{Layer, asking_step}
-use Rattle.sbp_journal.specs.Addresses.{Access}
-use Rattle.login_table.specs.declared.login.Login.{Login}
-use Rattle.orb_layout.specs.declared.ask.Ask.{Ask}
 use Rattle.orb_layout.specs.declared.ask.Ask.TheVariants as asks
 use Rattle.orb_layout.specs.declared.ask.FailCause.TheVariants as causes
-use Rattle.orb_layout.specs.declared.status.StatusBlock.{StatusBlock}
-use Rattle.orb_layout.specs.declared.status.StatusKind.{StatusKind}
-use Rattle.orb_layout.specs.StatusBlocks.{read_block}
-use Rattle.sbp_journal.specs.declared.outbox.Outgoing.{Outgoing}
-use Rattle.sbp_journal.specs.Outgoings.{OutboxState}
-use Rattle.sbp_laws.specs.Packets.{access_in_bytes}
-use Rattle.sbp_target.specs.declared.desk.Desk.{Desk}
-use Rattle.sbp_target.specs.declared.purpose.Purpose.{Purpose}
 use Rattle.sbp_target.specs.declared.purpose.Purpose.TheVariants as purposes
-use Rattle.sbp_target.specs.Agents.{after_ahead, after_loss, after_main, agent_body, ahead_asked, ahead_sent, ask_main, follow, lose, lose_main, lost_by, main_asked, main_sent, noted, send_ahead}
-use Rattle.sbp_target.specs.Nodes.{NodeState, Scene, desk_at, scene, with_agent, with_desk}
-use Rattle.sbp_target.specs.Sending.{request_step, sent_by}
-use Rattle.sbp_target.specs.Telling.{orb_of, tell_step}
-use Rattle.sbp_world.specs.Agents.Alike.{has_list}
-use Rattle.sbp_world.specs.Lists.Statuses.{IsFifo, IsStatusWrite}
 use Rattle.sbp_world.proofs.Lists.SameAgents.{AreSame, noted_same as told_same, set_here, set_there, with_same}
 use Rattle.sbp_world.proofs.Lists.StatusBytes.{Wrote, written_at, wrote}
 use Rattle.sbp_world.proofs.Lists.StatusLosses.{block_ends, lost_asks, lost_present, place_ends, quiet_ahead, sent_has}

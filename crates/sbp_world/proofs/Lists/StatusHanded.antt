@@ -1,25 +1,12 @@
 -- What the target hands out in a turn of the agent of a place: each write of a status that is sent to an initiator is the packet of the ORB that ended in it.
-use Rattle.std.proofs.Common.{arith, ◌≡◌, ◌∙◌, refl, sym, ap, subst, ◌≤◌, ℕ, suc, Bool, false, List, Option, Some, None, ◌<◌}
-use Rattle.std.proofs.lemmas.Option.{same_Some, none-some}
-use Rattle.bus_memory.specs.Windows.{slot_of}
-use Rattle.command_agent.specs.Machine.{Machine}
-use Rattle.orb_layout.specs.declared.status.StatusBlock.{StatusBlock}
-use Rattle.orb_list.specs.Tickets.{TicketParts}
-use Rattle.sbp_bus.specs.Generations.{GenerationsState, node_of, topology_at}
-use Rattle.sbp_bus.specs.Telling.{list_in, orb_in}
-use Rattle.sbp_journal.specs.Outgoings.{OutboxState}
-use Rattle.sbp_journal.specs.Run.{Moment}
-use Rattle.sbp_journal.specs.Wire.{terms}
-use Rattle.sbp_laws.specs.Lists.{Orb, orb, taken_at}
-use Rattle.sbp_laws.specs.StatusLaw.{status_due, status_packet}
-use Rattle.sbp_laws.specs.Terms.{appends, ended_status, ends, lists}
-use Rattle.sbp_laws.specs.Turns.{EachMoment}
-use Rattle.sbp_world.specs.Handing.{handed_out}
-use Rattle.sbp_world.specs.Telling.{holder, ticket_of, told_all}
-use Rattle.sbp_world.specs.Worlds.{WorldState}
+use Rattle.sbp_world.proofs.Words.Std.{arith, ◌≡◌, ◌∙◌, refl, sym, ap, subst, ◌≤◌, ℕ, suc, Bool, false, List, Option, Some, None, ◌<◌, same_Some, none-some}
+use Rattle.sbp_world.proofs.Words.Wire.{GenerationsState, node_of, topology_at, list_in, orb_in, OutboxState, Moment, terms}
+use Rattle.sbp_world.proofs.Words.Target.{Machine}
+use Rattle.sbp_world.proofs.Words.Initiator.{slot_of, StatusBlock, TicketParts}
+use Rattle.sbp_world.proofs.Words.Laws.{Orb, orb, taken_at, status_due, status_packet, appends, ended_status, ends, lists, EachMoment}
+use Rattle.sbp_world.proofs.Words.World.{handed_out, holder, ticket_of, told_all, WorldState, HasSlot, AreStatuses, SentSo}
 use Rattle.sbp_world.proofs.Agents.Management.Still.{hist}
-use Rattle.sbp_world.specs.Lists.SlotsStay.{HasSlot}
-use Rattle.sbp_world.specs.Lists.Statuses.{AreStatuses, IsTold, SentSo}
+use Rattle.sbp_world.specs.Lists.Statuses.{IsTold}
 use Rattle.sbp_world.proofs.Lists.Adds.{all_stay}
 use Rattle.sbp_world.proofs.Lists.Passing.{PassLaw}
 use Rattle.sbp_world.proofs.Lists.StatusKept.{untaken_above}

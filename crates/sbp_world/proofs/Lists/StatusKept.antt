@@ -1,31 +1,17 @@
 -- The statuses of an initiator are taken as the ORBs ended, of the packets that the ends sent, in every history in which each write of a status to it is such a packet
 -- as it is sent. A status is taken right behind the note that its packet was got, and until then the slot of the ORB keeps it.
-use Rattle.std.proofs.Common.{arith, ◌≡◌, ◌∙◌, refl, sym, ap, subst, inl, inr, ◌⊎◌, ◌<◌, ◌≤◌, ℕ, suc, Bool, true, false, List, [], ◌∷◌, ◌++◌, Option, Some, None}
+use Rattle.sbp_world.proofs.Words.Std.{arith, ◌≡◌, ◌∙◌, refl, sym, ap, subst, inl, inr, ◌⊎◌, ◌<◌, ◌≤◌, ℕ, suc, Bool, true, false, List, [], ◌∷◌, ◌++◌, Option, Some, None, false≢true, same_Some}
+use Rattle.sbp_world.proofs.Words.Wire.{reading, SerialsCount, Access, Moment, asked, said, Sending, terms}
+use Rattle.sbp_world.proofs.Words.Initiator.{start, StatusBlock, StatusKind}
+use Rattle.sbp_world.proofs.Words.Laws.{host_at, Orb, last_got, orb, prepared_in, slot_at, waits_in, access_at, access_in, access_in_bytes, packet_in, receiver_in, fifo_of, status_packet, ended_status, ends, EachMoment}
+use Rattle.sbp_world.proofs.Words.World.{IsTakenBy, Spells, TakenOf, is_place_fifo, AreStatuses, IsFifo, IsSentSo, IsStatusOf, IsStatusWrite, IsTakenSo, IsToHost, SentSo, TakenSo}
 use Rattle.std.specs.Prelude.{IsSomeAnd}
-use Rattle.std.proofs.lemmas.Bool.{false≢true}
-use Rattle.std.proofs.lemmas.Option.{same_Some}
-use Rattle.async_packet.specs.Reading.{reading}
 use Rattle.bus_memory.specs.declared.window.Window.TheVariants as windows
-use Rattle.bus_memory.specs.Windows.{start}
 use Rattle.bus_memory.proofs.Found.{slot_of_law}
-use Rattle.bus_transactions.specs.Packets.{SerialsCount}
-use Rattle.orb_layout.specs.declared.status.StatusBlock.{StatusBlock}
-use Rattle.orb_layout.specs.declared.status.StatusKind.{StatusKind}
-use Rattle.sbp_journal.specs.Addresses.{Access}
-use Rattle.sbp_journal.specs.Run.{Moment, asked, said}
-use Rattle.sbp_journal.specs.Transactions.{Sending}
-use Rattle.sbp_journal.specs.Wire.{terms}
 use Rattle.sbp_journal.specs.declared.note.Note.TheVariants as notes
-use Rattle.sbp_laws.specs.Hosts.{host_at}
-use Rattle.sbp_laws.specs.Lists.{Orb, last_got, orb, prepared_in, slot_at, waits_in}
-use Rattle.sbp_laws.specs.Packets.{access_at, access_in, access_in_bytes, packet_in, receiver_in}
-use Rattle.sbp_laws.specs.StatusLaw.{fifo_of, status_packet}
-use Rattle.sbp_laws.specs.Terms.{ended_status, ends}
-use Rattle.sbp_laws.specs.Turns.{EachMoment}
-use Rattle.sbp_world.specs.Hosts.Statuses.Taking.{IsTakenBy, Spells, TakenOf, is_place_fifo}
 use Rattle.sbp_world.proofs.Hosts.Remaining.{gets_same, remains}
 use Rattle.sbp_world.proofs.Hosts.SentMoments.{sent_below, serials_from}
-use Rattle.sbp_world.specs.Lists.Statuses.{AreStatuses, IsFifo, IsSentSo, IsStatusOf, IsStatusWrite, IsTakenSo, IsToHost, SentSo, TakenSo, of_login, of_place}
+use Rattle.sbp_world.specs.Lists.Statuses.{of_login, of_place}
 use Rattle.sbp_world.proofs.Lists.OpenNews.{got_more, got_news}
 use Rattle.sbp_world.proofs.Lists.Passing.{PassLaw}
 use Rattle.sbp_world.proofs.Lists.Stands.{Stands, standing}

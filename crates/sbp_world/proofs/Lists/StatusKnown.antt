@@ -1,33 +1,14 @@
 -- What is known of the status blocks of an initiator in a history, behind more moments: a slot keeps its ORB while the packet of that ORB was not judged.
-use Rattle.std.proofs.Common.{arith, ◌≡◌, ◌∙◌, refl, sym, ap, subst, inl, inr, ◌⊎◌, ◌<◌, ◌≤◌, ◌==◌, ◌+◌, ◌&&◌, ℕ, suc, nat_eq, nat_lt, Bool, true, false, cond, List, [], ◌∷◌, ◌++◌, Option, Some, None, Result, Ok, Err}
+use Rattle.sbp_world.proofs.Words.Std.{arith, ◌≡◌, ◌∙◌, refl, sym, ap, subst, inl, inr, ◌⊎◌, ◌<◌, ◌≤◌, ◌==◌, ◌+◌, ◌&&◌, ℕ, suc, nat_eq, nat_lt, Bool, true, false, cond, List, [], ◌∷◌, ◌++◌, Option, Some, None, Result, Ok, Err, nat_tests, false≢true, same_Some, none-some}
+use Rattle.sbp_world.proofs.Words.Wire.{PacketFault, Packet, lock, lock_response, read_block, read_block_response, read_quadlet, read_quadlet_response, write_block, write_quadlet, write_response, AreJudged, may_get, SerialsCount, Facts, row_of, Access, access_of, Moment, asked, said, Sending, terms}
+use Rattle.sbp_world.proofs.Words.Initiator.{reads_rom, StatusBlock, StatusKind}
+use Rattle.sbp_world.proofs.Words.Laws.{Orb, TakenStatus, last_got, src_in, orb, present_list, is_list, is_none_taken, taken_at, waits_in, access_at, access_in, spelled_by, status_packet, appends, EachMoment}
+use Rattle.sbp_world.proofs.Words.World.{AllOfTarget, TakenOf, HasSlot, IsGone, saw, was_over, AreStatuses, IsStatusOf, IsStatusWrite, IsTakenSo, IsToHost, TakenSo}
 use Rattle.std.specs.Prelude.{IsSomeAnd}
-use Rattle.std.proofs.lemmas.Bool.Decides.{nat_tests}
-use Rattle.std.proofs.lemmas.Bool.{false≢true}
-use Rattle.std.proofs.lemmas.Option.{same_Some, none-some}
-use Rattle.async_packet.specs.declared.fault.PacketFault.{PacketFault}
-use Rattle.async_packet.specs.Packet.{Packet, lock, lock_response, read_block, read_block_response, read_quadlet, read_quadlet_response, write_block, write_quadlet, write_response}
-use Rattle.bus_transactions.specs.Judging.{AreJudged, facts_of, may_get}
-use Rattle.bus_transactions.specs.Packets.{SerialsCount}
-use Rattle.initiator_base.specs.Places.{reads_rom}
-use Rattle.label_table.specs.Judging.{Facts, row_of}
-use Rattle.orb_layout.specs.declared.status.StatusBlock.{StatusBlock}
-use Rattle.orb_layout.specs.declared.status.StatusKind.{StatusKind}
-use Rattle.sbp_journal.specs.Addresses.{Access, access_of}
-use Rattle.sbp_journal.specs.Run.{Moment, asked, said}
-use Rattle.sbp_journal.specs.Transactions.{Sending}
-use Rattle.sbp_journal.specs.Wire.{terms}
+use Rattle.bus_transactions.specs.Judging.{facts_of}
 use Rattle.sbp_journal.specs.declared.note.Note.TheVariants as notes
-use Rattle.sbp_laws.specs.Lists.{Orb, TakenStatus, last_got, src_in, orb, present_list, is_list, is_none_taken, taken_at, waits_in}
-use Rattle.sbp_laws.specs.Packets.{access_at, access_in, spelled_by}
-use Rattle.sbp_laws.specs.StatusLaw.{status_packet}
-use Rattle.sbp_laws.specs.Terms.{appends}
-use Rattle.sbp_laws.specs.Turns.{EachMoment}
-use Rattle.sbp_world.specs.Hosts.Sources.{AllOfTarget}
-use Rattle.sbp_world.specs.Hosts.Statuses.Taking.{TakenOf}
 use Rattle.sbp_world.proofs.Hosts.Remaining.{remains}
 use Rattle.sbp_world.proofs.Hosts.SentMoments.{WasSent, count_now, now, sent_moment, sent_there, serials_from}
-use Rattle.sbp_world.specs.Lists.SlotsStay.{HasSlot, IsGone, saw, was_over}
-use Rattle.sbp_world.specs.Lists.Statuses.{AreStatuses, IsStatusOf, IsStatusWrite, IsTakenSo, IsToHost, TakenSo}
 use Rattle.sbp_world.proofs.Lists.Generations.{not_lower}
 use Rattle.sbp_world.proofs.Lists.OpenNews.{all_grow}
 use Rattle.sbp_world.proofs.Lists.Passing.{PassLaw}

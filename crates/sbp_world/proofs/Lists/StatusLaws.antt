@@ -1,36 +1,16 @@
 -- The status law of runs: each status is taken as its ORB ended, of the packet that the end sent.
-use Rattle.std.proofs.Common.{◌≡◌, ◌∙◌, sym, ap, subst, ◌⊎◌, inl, inr, ◌<◌, ◌≤◌, ℕ, Bool, true, false, List, [], ◌∷◌, ◌++◌, map, length, Option, Some, None, IsSomeAnd}
-use Rattle.std.proofs.lemmas.Bool.{false≢true}
+use Rattle.sbp_world.proofs.Words.Std.{◌≡◌, ◌∙◌, sym, ap, subst, ◌⊎◌, inl, inr, ◌<◌, ◌≤◌, ℕ, Bool, true, false, List, [], ◌∷◌, ◌++◌, map, length, Option, Some, None, IsSomeAnd, false≢true}
+use Rattle.sbp_world.proofs.Words.Wire.{Access, Moment, asked, said, terms}
+use Rattle.sbp_world.proofs.Words.Target.{Disk}
+use Rattle.sbp_world.proofs.Words.Initiator.{start_of, StatusKind}
+use Rattle.sbp_world.proofs.Words.Laws.{ExecutionLaw, Host, host_at, injectors, last_got, slot_at, access_at, IsTaken, SpellsStatus, StatusLaw, TakenAt, fifo_of, EachMoment}
+use Rattle.sbp_world.proofs.Words.World.{history_of, Run, after, beginning, after_all, begun, IsRun, more_deliveries, IsTakenBy, Spells, TakenOf, is_place_fifo, Under, WhereTameOrFew, OpenBefore, IsTameOrFew, AllStatuses, IsTakenSo, TakenSo, AllTakenOf, AtLogin, IsTakenOf, SpellsStatusTo, StatusOfLaw, StatusOfRunLaw, TakenOfAt, TakenOfOne}
 use Rattle.bus_memory.specs.declared.window.Window.TheVariants as windows
-use Rattle.bus_memory.specs.Windows.{start as start_of}
-use Rattle.orb_layout.specs.declared.status.StatusKind.{StatusKind}
-use Rattle.rbc_disk.specs.Disk.{Disk}
-use Rattle.sbp_journal.specs.Addresses.{Access}
-use Rattle.sbp_journal.specs.Run.{Moment, asked, said}
-use Rattle.sbp_journal.specs.Wire.{terms}
 use Rattle.sbp_journal.specs.declared.note.Note.TheVariants as notes
-use Rattle.sbp_laws.specs.ExecutionLaw.{ExecutionLaw}
-use Rattle.sbp_laws.specs.Hosts.{Host, host_at}
-use Rattle.sbp_laws.specs.Lawful.{injectors}
-use Rattle.sbp_laws.specs.Lists.{last_got, slot_at}
-use Rattle.sbp_laws.specs.Packets.{access_at}
-use Rattle.sbp_laws.specs.StatusLaw.{IsTaken, SpellsStatus, StatusLaw, TakenAt, fifo_of}
-use Rattle.sbp_laws.specs.Turns.{EachMoment}
-use Rattle.sbp_world.specs.Histories.{history_of}
-use Rattle.sbp_world.specs.Runs.{Run, after, beginning}
-use Rattle.sbp_world.specs.Settling.{after_all}
-use Rattle.sbp_world.specs.Worlds.{begun}
-use Rattle.sbp_world.specs.Hosts.Runs.{IsRun, more_deliveries}
-use Rattle.sbp_world.specs.Hosts.Statuses.Taking.{IsTakenBy, Spells, TakenOf, is_place_fifo}
 use Rattle.sbp_world.proofs.Hosts.Runs.{count_after, count_between}
 use Rattle.sbp_world.proofs.Hosts.Statuses.Finished.{finished_law}
 use Rattle.sbp_world.proofs.Hosts.Statuses.Ranges.{InsideIn, run_inside}
 use Rattle.sbp_world.proofs.Hosts.Statuses.Runs.{taking_law}
-use Rattle.sbp_world.specs.Lists.Closes.{Under, WhereTameOrFew}
-use Rattle.sbp_world.specs.Lists.Needs.{OpenBefore}
-use Rattle.sbp_world.specs.Lists.FewLogins.{IsTameOrFew}
-use Rattle.sbp_world.specs.Lists.Statuses.{AllStatuses, IsTakenSo, TakenSo}
-use Rattle.sbp_world.specs.Lists.StatusRuns.{AllTakenOf, AtLogin, IsTakenOf, SpellsStatusTo, StatusOfLaw, StatusOfRunLaw, TakenOfAt, TakenOfOne}
 use Rattle.sbp_world.proofs.Lists.Executes.{execution_run_law}
 use Rattle.sbp_world.proofs.Lists.StatusChecks.{ended_told}
 use Rattle.sbp_world.proofs.Common.{itself, delivers}

@@ -1,20 +1,12 @@
 -- The status of an ORB was taken at the FIFO of a login, where each status block was sent to one.
-use Rattle.std.proofs.Common.{◌≡◌, ◌∙◌, sym, ap, subst, ◌<◌, ℕ, suc, Bool, false, List, [], ◌∷◌, ◌++◌, Option, Some, IsSomeAnd}
-use Rattle.orb_layout.specs.declared.status.StatusBlock.{StatusBlock}
-use Rattle.orb_layout.specs.declared.status.StatusKind.{StatusKind}
-use Rattle.sbp_journal.specs.Addresses.{Access}
-use Rattle.sbp_journal.specs.Run.{Moment, asked, said}
-use Rattle.sbp_journal.specs.Transactions.{Sending}
-use Rattle.sbp_journal.specs.Wire.{terms}
+use Rattle.sbp_world.proofs.Words.Std.{◌≡◌, ◌∙◌, sym, ap, subst, ◌<◌, ℕ, suc, Bool, false, List, [], ◌∷◌, ◌++◌, Option, Some, IsSomeAnd}
+use Rattle.sbp_world.proofs.Words.Wire.{Access, Moment, asked, said, Sending, terms}
+use Rattle.sbp_world.proofs.Words.Initiator.{StatusBlock, StatusKind}
+use Rattle.sbp_world.proofs.Words.Laws.{last_got, access_at, access_in, access_in_bytes, packet_in, EachMoment}
+use Rattle.sbp_world.proofs.Words.World.{is_place_fifo, IsStatusWrite, IsTakenSo, SentSo, TakenSo, AtLogin}
 use Rattle.sbp_journal.specs.declared.note.Note.TheVariants as notes
-use Rattle.sbp_laws.specs.Lists.{last_got}
-use Rattle.sbp_laws.specs.Packets.{access_at, access_in, access_in_bytes, packet_in}
-use Rattle.sbp_laws.specs.Turns.{EachMoment}
-use Rattle.sbp_world.specs.Hosts.Statuses.Taking.{is_place_fifo}
 use Rattle.sbp_world.proofs.Hosts.SentMoments.{WasSent, sent_moment}
 use Rattle.sbp_world.proofs.Hosts.Statuses.Ranges.{InsideIn}
-use Rattle.sbp_world.specs.Lists.Statuses.{IsStatusWrite, IsTakenSo, SentSo, TakenSo}
-use Rattle.sbp_world.specs.Lists.StatusRuns.{AtLogin}
 use Rattle.sbp_world.proofs.Common.{itself}
 
 pub each_there : (P : Moment → List Moment → Type 0) (later : List Moment) (m : Moment) (past : List Moment) → EachMoment P (later ++ m ∷ past) → P m past

@@ -1,20 +1,10 @@
 -- A transaction of an agent that is lost, and the status block of an ORB that ended: which address and which status it has, and that its src is 1 at the end of a list.
-use Rattle.std.proofs.Common.{arith, ◌≡◌, ◌∙◌, refl, sym, ap, ◌<◌, ◌^◌, ℕ, Bool, true, false, cond, Option, Some, None, Ok}
-use Rattle.std.proofs.lemmas.Bool.{false≢true}
-use Rattle.command_agent.specs.declared.phase.Phase.{Phase}
+use Rattle.sbp_world.proofs.Words.Std.{arith, ◌≡◌, ◌∙◌, refl, sym, ap, ◌<◌, ◌^◌, ℕ, Bool, true, false, cond, Option, Some, None, Ok, false≢true}
+use Rattle.sbp_world.proofs.Words.Target.{Phase, Ahead, Main, Machine, has_present, is_ahead, is_sent, ahead_lost, block_of, lost_step, main_lost, quiet, src_of, or_zero, orb_of}
+use Rattle.sbp_world.proofs.Words.Initiator.{FailCause, OrbPointer, Null, At, StatusBlock, StatusKind, read_block, status_bytes}
+use Rattle.sbp_world.proofs.Words.World.{has_list}
 use Rattle.command_agent.specs.declared.phase.Phase.TheVariants as phases
-use Rattle.command_agent.specs.declared.step.Which.TheVariants.{Ahead, Main}
-use Rattle.command_agent.specs.Machine.{Machine, has_present, is_ahead, is_sent}
-use Rattle.command_agent.specs.Steps.{ahead_lost, block_of, lost_step, main_lost, quiet, src_of}
 use Rattle.orb_layout.specs.declared.ask.Ask.TheVariants as asks
-use Rattle.orb_layout.specs.declared.ask.FailCause.{FailCause}
-use Rattle.orb_layout.specs.declared.pointer.OrbPointer.{OrbPointer}
-use Rattle.orb_layout.specs.declared.pointer.OrbPointer.TheVariants.{Null, At}
-use Rattle.orb_layout.specs.declared.status.StatusBlock.{StatusBlock}
-use Rattle.orb_layout.specs.declared.status.StatusKind.{StatusKind}
-use Rattle.orb_layout.specs.StatusBlocks.{read_block, status_bytes}
-use Rattle.sbp_target.specs.Telling.{or_zero, orb_of}
-use Rattle.sbp_world.specs.Agents.Alike.{has_list}
 use Rattle.sbp_world.proofs.Lists.StatusBytes.{fields, kind_as, reads_as}
 use Rattle.sbp_world.proofs.Lists.StatusPackets.{EndSide, IsEndOf, IsOfEnd, end_of, or_before}
 use Rattle.sbp_world.proofs.Lists.StatusSteps.{EndsSo, rests_in, some_none}

@@ -1,49 +1,20 @@
 -- What the target sends for an operation of its management is no status of an ORB in a slot, where the operation is of a place of management: a response reads as no
 -- status block, and the status block of the operation names the management ORB.
-use Rattle.std.proofs.Common.{arith, ◌≡◌, ◌∙◌, refl, sym, ap, subst, ◌<◌, ◌≤◌, ◌+◌, ◌*◌, ◌/◌, ◌%◌, ◌^◌, ◌==◌, not, nat_lt, ℕ, zero, suc, Bool, true, false, cond, List, [], ◌∷◌, ◌++◌, length, take, Option, Some, None, Result, Ok, Err}
-use Rattle.std.specs.List.{cons_option}
-use Rattle.std.proofs.lemmas.Bool.Decides.{nat_tests}
-use Rattle.std.proofs.lemmas.Bool.{false≢true}
+use Rattle.sbp_world.proofs.Words.Std.{arith, ◌≡◌, ◌∙◌, refl, sym, ap, subst, ◌<◌, ◌≤◌, ◌+◌, ◌*◌, ◌/◌, ◌%◌, ◌^◌, ◌==◌, not, nat_lt, ℕ, zero, suc, Bool, true, false, cond, List, [], ◌∷◌, ◌++◌, length, take, Option, Some, None, Result, Ok, Err, cons_option, nat_tests, false≢true, big_bytes, big_from-bytes, quad}
+use Rattle.sbp_world.proofs.Words.Target.{Login, LoginRefusal, LoginRequest, Table, back_step, leave_step, enter_at, enter_step, next_id, ManagerStep, Response, Function, Operation, Status, asked_by, back_decided, decide, decide_function, decide_login, decide_query, effect_of, entries_of, entry_of, key_at, lacks_key, left_decided, live_login, login_decided, on_login, reads_eui, response_bytes, unit_exists, with_status, function_of, number_of}
+use Rattle.sbp_world.proofs.Words.Initiator.{slot_of, start_of, FailCause, OrbFault, Form, Length, LoginResponse, ManagementOrb, QueryEntry, StatusBlock, login_bytes, management_orb, offset_at, entries_bytes, query_bytes, Answer, payload_of, write_failure, in_row, kind_of, read_block, whole_length}
 use Rattle.bus_memory.specs.declared.window.Window.TheVariants as windows
-use Rattle.bus_memory.specs.Windows.{slot_of, start as start_of}
 use Rattle.bus_memory.proofs.Found.{slot_of_law}
-use Rattle.byteorder.specs.Endian.{big_bytes}
-use Rattle.byteorder.specs.Numbers.{big_from-bytes}
-use Rattle.login_table.specs.declared.login.Login.{Login}
-use Rattle.login_table.specs.declared.login.LoginRefusal.{LoginRefusal}
-use Rattle.login_table.specs.Requests.{LoginRequest}
-use Rattle.login_table.specs.Table.{Table, back_step, leave_step, enter_at, enter_step, next_id}
 use Rattle.login_table.proofs.Counting.{fresh_within, next_in}
 use Rattle.mgmt_agent.specs.declared.decision.Effect.TheVariants as effects
-use Rattle.mgmt_agent.specs.declared.decision.ManagerStep.{ManagerStep}
 use Rattle.mgmt_agent.specs.declared.decision.Outcome.{Outcome}
-use Rattle.mgmt_agent.specs.declared.decision.Response.{Response}
 use Rattle.mgmt_agent.specs.declared.decision.Response.TheVariants as responses
-use Rattle.mgmt_agent.specs.declared.function.Function.{Function}
 use Rattle.mgmt_agent.specs.declared.function.Function.TheVariants as functions
-use Rattle.mgmt_agent.specs.declared.operation.Operation.{Operation}
 use Rattle.mgmt_agent.specs.declared.operation.Phase.{Phase}
 use Rattle.mgmt_agent.specs.declared.operation.Phase.TheVariants as phases
-use Rattle.mgmt_agent.specs.declared.status.Status.{Status}
 use Rattle.mgmt_agent.specs.declared.status.Status.TheVariants as statuses
-use Rattle.mgmt_agent.specs.Decisions.{asked_by, back_decided, decide, decide_function, decide_login, decide_query, effect_of, entries_of, entry_of, key_at, lacks_key, left_decided, live_login, login_decided, on_login, reads_eui, response_bytes, unit_exists, with_status}
 use Rattle.mgmt_agent.specs.Machine as management
-use Rattle.mgmt_agent.specs.Statuses.{function_of, number_of}
 use Rattle.orb_layout.specs.declared.ask.Ask.TheVariants as asks
-use Rattle.orb_layout.specs.declared.ask.FailCause.{FailCause}
-use Rattle.orb_layout.specs.declared.fault.OrbFault.{OrbFault}
-use Rattle.orb_layout.specs.declared.fault.OrbFault.TheVariants.{Form, Length}
-use Rattle.orb_layout.specs.declared.login.LoginResponse.{LoginResponse}
-use Rattle.orb_layout.specs.declared.management.ManagementOrb.{ManagementOrb}
-use Rattle.orb_layout.specs.declared.query.QueryEntry.{QueryEntry}
-use Rattle.orb_layout.specs.declared.status.StatusBlock.{StatusBlock}
-use Rattle.orb_layout.specs.LoginResponses.{login_bytes}
-use Rattle.orb_layout.specs.ManagementOrbs.{management_orb}
-use Rattle.orb_layout.specs.Pointers.{offset_at}
-use Rattle.orb_layout.specs.QueryResponses.{entries_bytes, query_bytes}
-use Rattle.orb_layout.specs.Replies.{Answer, payload_of, write_failure}
-use Rattle.orb_layout.specs.StatusBlocks.{in_row, kind_of, read_block, whole_length}
-use Rattle.sbp_base.specs.Quadlets.{quad}
 use Rattle.sbp_world.proofs.Lists.StatusBytes.{reads_as, not_read}
 use Rattle.sbp_world.proofs.Lists.StatusSteps.{none_wrote}
 

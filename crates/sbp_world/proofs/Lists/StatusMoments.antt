@@ -1,17 +1,10 @@
 -- What the moments of a history leave of the ends of ORBs, of the packets that they send, and of the statuses that are taken: an ORB that ended has its number
 -- below that of the ends, keeps its status and the packet that its end sent, and one whose status was taken has a status from then on.
-use Rattle.std.proofs.Common.{arith, ◌≡◌, ◌∙◌, refl, sym, ap, subst, ◌<◌, ◌≤◌, ◌==◌, ◌&&◌, ℕ, zero, suc, nat_eq, Bool, true, false, cond, List, [], ◌∷◌, ◌++◌, Option, Some, None}
-use Rattle.std.proofs.lemmas.Bool.Decides.{nat_tests}
-use Rattle.std.proofs.lemmas.Bool.{false≢true}
-use Rattle.std.proofs.lemmas.Option.{same_Some, none-some}
-use Rattle.orb_layout.specs.declared.status.StatusKind.{StatusKind}
-use Rattle.sbp_journal.specs.Run.{Moment, asked, said}
+use Rattle.sbp_world.proofs.Words.Std.{arith, ◌≡◌, ◌∙◌, refl, sym, ap, subst, ◌<◌, ◌≤◌, ◌==◌, ◌&&◌, ℕ, zero, suc, nat_eq, Bool, true, false, cond, List, [], ◌∷◌, ◌++◌, Option, Some, None, nat_tests, false≢true, same_Some, none-some}
+use Rattle.sbp_world.proofs.Words.Wire.{Moment, asked, said}
+use Rattle.sbp_world.proofs.Words.Initiator.{StatusKind}
+use Rattle.sbp_world.proofs.Words.Laws.{Orb, TakenStatus, is_over, is_over_by, orb, present_list, taken_at, access_in_bytes, is_write_in, EndedOrb, first_of, is_due, status_due, status_packet, ended_status, ends, lists}
 use Rattle.sbp_journal.specs.declared.note.Note.TheVariants as notes
-use Rattle.sbp_laws.specs.Lists.{Orb, TakenStatus, is_over, is_over_by, orb, present_list, taken_at}
-use Rattle.sbp_laws.specs.Packets.{access_in_bytes}
-use Rattle.sbp_laws.specs.OnceLaw.{is_write_in}
-use Rattle.sbp_laws.specs.StatusLaw.{EndedOrb, first_of, is_due, status_due, status_packet}
-use Rattle.sbp_laws.specs.Terms.{ended_status, ends, lists}
 use Rattle.sbp_world.proofs.Lists.Passing.{PassLaw}
 use Rattle.sbp_world.proofs.Common.{itself}
 

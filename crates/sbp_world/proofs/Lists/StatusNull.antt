@@ -1,28 +1,14 @@
 -- The last ORB of a list whose status blocks have src 1, as they tell that its next pointer was null: while no other ORB of its list has ended it is not over, whether its
 -- status was taken or not. Its status was sent behind its end alone.
-use Rattle.std.proofs.Common.{arith, ◌≡◌, ◌∙◌, refl, sym, ap, subst, ◌<◌, ◌≤◌, ◌==◌, ◌&&◌, ◌||◌, ◌+◌, not, ℕ, zero, suc, nat_eq, nat_lt, Bool, true, false, cond, List, [], ◌∷◌, ◌++◌, Option, Some, None}
+use Rattle.sbp_world.proofs.Words.Std.{arith, ◌≡◌, ◌∙◌, refl, sym, ap, subst, ◌<◌, ◌≤◌, ◌==◌, ◌&&◌, ◌||◌, ◌+◌, not, ℕ, zero, suc, nat_eq, nat_lt, Bool, true, false, cond, List, [], ◌∷◌, ◌++◌, Option, Some, None, nat_tests, false≢true, same_Some, none-some}
+use Rattle.sbp_world.proofs.Words.Wire.{SerialsCount, Access, Moment, asked, said, Sending, terms}
+use Rattle.sbp_world.proofs.Words.Initiator.{StatusBlock, StatusKind, row_of}
+use Rattle.sbp_world.proofs.Words.Laws.{TakenStatus, is_over, is_over_by, is_pinned, last_got, linked, orb, passed, pinned_orb, src_in, taken_at, is_write_in, access_at, access_in, access_in_bytes, packet_in, first_of, is_due, status_due, status_packet, ends, EachMoment}
+use Rattle.sbp_world.proofs.Words.World.{IsStatusWrite, IsTakenSo, TakenSo}
 use Rattle.std.specs.Prelude.{max}
-use Rattle.std.proofs.lemmas.Bool.Decides.{nat_tests}
-use Rattle.std.proofs.lemmas.Bool.{false≢true}
-use Rattle.std.proofs.lemmas.Option.{same_Some, none-some}
-use Rattle.bus_transactions.specs.Packets.{SerialsCount}
-use Rattle.orb_layout.specs.declared.status.StatusBlock.{StatusBlock}
-use Rattle.orb_layout.specs.declared.status.StatusKind.{StatusKind}
-use Rattle.orb_layout.specs.StatusBlocks.{row_of}
-use Rattle.sbp_journal.specs.Addresses.{Access}
-use Rattle.sbp_journal.specs.Run.{Moment, asked, said}
-use Rattle.sbp_journal.specs.Transactions.{Sending}
-use Rattle.sbp_journal.specs.Wire.{terms}
 use Rattle.sbp_journal.specs.declared.note.Note.TheVariants as notes
-use Rattle.sbp_laws.specs.Lists.{TakenStatus, is_over, is_over_by, is_pinned, last_got, linked, orb, passed, pinned_orb, src_in, taken_at}
-use Rattle.sbp_laws.specs.OnceLaw.{is_write_in}
-use Rattle.sbp_laws.specs.Packets.{access_at, access_in, access_in_bytes, packet_in}
-use Rattle.sbp_laws.specs.StatusLaw.{first_of, is_due, status_due, status_packet}
-use Rattle.sbp_laws.specs.Terms.{ends}
-use Rattle.sbp_laws.specs.Turns.{EachMoment}
 use Rattle.sbp_world.proofs.Hosts.Remaining.{remains}
 use Rattle.sbp_world.proofs.Hosts.SentMoments.{count_now, now, sent_below, sent_there, serials_from}
-use Rattle.sbp_world.specs.Lists.Statuses.{IsStatusWrite, IsTakenSo, TakenSo}
 use Rattle.sbp_world.proofs.Lists.Passing.{PassLaw}
 use Rattle.sbp_world.proofs.Lists.StatusBytes.{reads_as}
 use Rattle.sbp_world.proofs.Lists.StatusKnown.{each_from}

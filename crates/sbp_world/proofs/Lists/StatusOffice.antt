@@ -1,54 +1,21 @@
 -- What the target hands out as its management goes on: nothing, or one packet to the node of the operation, which is no status of an ORB in a slot where the operation
 -- is of a place of management. So each status that it sends then is as it is to be.
-use Rattle.std.proofs.Common.{arith, ◌≡◌, ◌∙◌, refl, sym, ap, subst, ◌<◌, ◌≤◌, ◌+◌, ◌==◌, nat_le, ℕ, zero, suc, Bool, true, false, cond, List, [], ◌∷◌, ◌++◌, map, length, Option, Some, None}
-use Rattle.std.proofs.lemmas.Bool.Decides.{nat_tests}
-use Rattle.std.proofs.lemmas.Option.{none-some}
+use Rattle.sbp_world.proofs.Words.Std.{arith, ◌≡◌, ◌∙◌, refl, sym, ap, subst, ◌<◌, ◌≤◌, ◌+◌, ◌==◌, nat_le, ℕ, zero, suc, Bool, true, false, cond, List, [], ◌∷◌, ◌++◌, map, length, Option, Some, None, nat_tests, none-some}
+use Rattle.sbp_world.proofs.Words.Wire.{Asked, Body, block_read, block_write, quadlet_read, quadlet_write, Layer, asking_step, GenerationsState, id_of, node_of, topology_at, CutCause, Note, Outgoing, Side, OutboxState, Moment, said}
+use Rattle.sbp_world.proofs.Words.Target.{new_machine, state_in, Table, Decision, Effect, ManagerStep, Operation, Purpose, cut, cut_node, told_cut, ask_manager, cut_placed, decided_by, effect_by, failed_by, fresh_desk, manage, managed_in, managed_with, manager_asked, manager_body, manager_sent, place_in, tell_left, with_manager, Scene, desk_at, scene, request_step, sent_by, clear_from, clear_unit, cut_all, is_reset}
+use Rattle.sbp_world.proofs.Words.Initiator.{slot_of, start_of, Ask, FailCause, Answer, read_block}
+use Rattle.sbp_world.proofs.Words.Laws.{access_in_bytes, EachMoment}
+use Rattle.sbp_world.proofs.Words.World.{handed_out, sent_all, told_side, told_all, WorldState, AreOthers, SentSo}
 use Rattle.bus_memory.specs.declared.window.Window.TheVariants as windows
-use Rattle.bus_memory.specs.Windows.{slot_of, start as start_of}
-use Rattle.command_agent.specs.Machine.{new_machine, state_in}
-use Rattle.label_table.specs.declared.judgement.Asked.{Asked}
-use Rattle.label_table.specs.Bodies.{Body, block_read, block_write, quadlet_read, quadlet_write}
-use Rattle.label_table.specs.Layer.{Layer, asking_step}
-use Rattle.login_table.specs.Table.{Table}
-use Rattle.mgmt_agent.specs.declared.decision.Decision.{Decision}
-use Rattle.mgmt_agent.specs.declared.decision.Effect.{Effect}
 use Rattle.mgmt_agent.specs.declared.decision.Effect.TheVariants as effects
-use Rattle.mgmt_agent.specs.declared.decision.ManagerStep.{ManagerStep}
-use Rattle.mgmt_agent.specs.declared.operation.Operation.{Operation}
 use Rattle.mgmt_agent.specs.Machine as management
-use Rattle.orb_layout.specs.declared.ask.Ask.{Ask}
 use Rattle.orb_layout.specs.declared.ask.Ask.TheVariants as asks
-use Rattle.orb_layout.specs.declared.ask.FailCause.{FailCause}
-use Rattle.orb_layout.specs.Replies.{Answer}
-use Rattle.orb_layout.specs.StatusBlocks.{read_block}
-use Rattle.sbp_bus.specs.Generations.{GenerationsState, id_of, node_of, topology_at}
-use Rattle.sbp_journal.specs.declared.cause.CutCause.{CutCause}
 use Rattle.sbp_journal.specs.declared.cause.CutCause.TheVariants as cuts
-use Rattle.sbp_journal.specs.declared.note.Note.{Note}
-use Rattle.sbp_journal.specs.declared.outbox.Outgoing.{Outgoing}
-use Rattle.sbp_journal.specs.declared.side.Side.{Side}
 use Rattle.sbp_journal.specs.declared.side.Side.TheVariants as sides
-use Rattle.sbp_journal.specs.Outgoings.{OutboxState}
-use Rattle.sbp_journal.specs.Run.{Moment, said}
-use Rattle.sbp_laws.specs.Packets.{access_in_bytes}
-use Rattle.sbp_laws.specs.Turns.{EachMoment}
-use Rattle.sbp_target.specs.declared.purpose.Purpose.{Purpose}
 use Rattle.sbp_target.specs.declared.purpose.Purpose.TheVariants as purposes
-use Rattle.sbp_target.specs.Agents.{cut, cut_node, told_cut}
-use Rattle.sbp_target.specs.Management.{ask_manager, cut_placed, decided_by, effect_by, failed_by, fresh_desk, manage, managed_in, managed_with, manager_asked, manager_body, manager_sent, place_in, tell_left, with_manager}
-use Rattle.sbp_target.specs.Nodes.{Scene, desk_at, scene}
-use Rattle.sbp_target.specs.Sending.{request_step, sent_by}
-use Rattle.sbp_target.specs.Units.{clear_from, clear_unit, cut_all}
-use Rattle.sbp_world.specs.Handing.{handed_out}
-use Rattle.sbp_world.specs.Sending.{sent_all}
-use Rattle.sbp_world.specs.Telling.{told as told_side, told_all}
-use Rattle.sbp_world.specs.Worlds.{WorldState}
 use Rattle.sbp_world.proofs.Wire.Bus.{node_has}
-use Rattle.command_agent.specs.Steps.{is_reset}
 use Rattle.sbp_target.proofs.Histories.Calling.{Good}
 use Rattle.sbp_world.proofs.Agents.Management.Still.{hist}
-use Rattle.sbp_world.specs.Hosts.Handing.{AreOthers}
-use Rattle.sbp_world.specs.Lists.Statuses.{SentSo}
 use Rattle.sbp_world.proofs.Lists.StatusActs.{first}
 use Rattle.sbp_world.proofs.Lists.StatusBytes.{wrote}
 use Rattle.sbp_world.proofs.Lists.StatusLines.{S, is_plain, plain_on, target_hands}

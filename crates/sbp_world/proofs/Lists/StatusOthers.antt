@@ -1,38 +1,17 @@
 -- Each turn of an initiator, and each line in which no packet is delivered, keeps that the last ORB of a list stands in its slot while its agent is at the end of the list.
-use Rattle.std.proofs.Common.{◌≡◌, ◌∙◌, refl, sym, ap, subst, ◌-◌, ℕ, suc, nat_eq, nat_lt, Bool, true, false, cond, List, [], ◌∷◌, ◌++◌, map, length, None}
-use Rattle.std.specs.Prelude.{slice_index_or, slice_set}
-use Rattle.std.proofs.lemmas.Bool.{false≢true}
-use Rattle.packet_store.specs.declared.sent.Sent.{Sent}
-use Rattle.sbp_bus.specs.Packets.{judged_note, no_packet}
-use Rattle.sbp_journal.specs.declared.cause.Judged.{Judged}
-use Rattle.sbp_journal.specs.declared.event.Event.{Event}
-use Rattle.sbp_journal.specs.declared.note.Note.{Note}
+use Rattle.sbp_world.proofs.Words.Std.{◌≡◌, ◌∙◌, refl, sym, ap, subst, ◌-◌, ℕ, suc, nat_eq, nat_lt, Bool, true, false, cond, List, [], ◌∷◌, ◌++◌, map, length, None, slice_index_or, slice_set, false≢true}
+use Rattle.sbp_world.proofs.Words.Wire.{Sent, judged_note, no_packet, Judged, Event, Note, empty_outbox, Moment, asked, said, id_of, Request}
+use Rattle.sbp_world.proofs.Words.Target.{NodeState, desk_at, with_key}
+use Rattle.sbp_world.proofs.Words.Initiator.{InitiatorState, Turn, new_state, expire_step, receive_step, see_step}
+use Rattle.sbp_world.proofs.Words.Laws.{status_due}
+use Rattle.sbp_world.proofs.Words.World.{marked, with_initiators, handed_out, WorldState, initiator_at, with_note, with_target, without_notes, with_initiator, AllOf, of_rest, see_line, told_seen, with_seen, handed_all, keyed, no_unit, at_initiator, initiator_expires, refused, timed_out}
 use Rattle.sbp_journal.specs.declared.note.Note.TheVariants as notes
-use Rattle.sbp_journal.specs.Outgoings.{empty_outbox}
-use Rattle.sbp_journal.specs.Run.{Moment, asked, said}
-use Rattle.sbp_laws.specs.StatusLaw.{status_due}
-use Rattle.sbp_target.specs.Nodes.{NodeState, desk_at}
-use Rattle.sbp_world.specs.Delivering.{marked, with_initiators}
-use Rattle.sbp_world.specs.Handing.{handed_out}
-use Rattle.sbp_world.specs.Worlds.{WorldState, initiator_at, with_note, with_target, without_notes, with_initiator}
 use Rattle.sbp_world.proofs.Agents.Management.Still.{hist}
-use Rattle.sbp_world.specs.Lists.Opened.{AllOf, of_rest}
 use Rattle.sbp_world.proofs.Lists.Generations.{moment_generation}
 use Rattle.sbp_world.proofs.Lists.StatusCall.{AreRested, IsFirst}
-use Rattle.sbp_bus.specs.Generations.{id_of}
-use Rattle.sbp_world.specs.Nodes.{see_line, told_seen, with_seen, handed_all}
 use Rattle.sbp_world.specs.Nodes as nodes
 use Rattle.sbp_world.proofs.Lists.OpenedWorlds.{turn_is}
 use Rattle.sbp_world.proofs.Lists.StatusBehind.{At, Then, others_rest}
-use Rattle.sbp_bus.specs.declared.requests.Request.{Request}
-use Rattle.sbp_initiator.specs.declared.state.InitiatorState.{InitiatorState}
-use Rattle.sbp_initiator.specs.Effects.{Turn}
-use Rattle.sbp_initiator.specs.Initiators.{new_state}
-use Rattle.sbp_initiator.specs.Receiving.{expire_step, receive_step}
-use Rattle.sbp_initiator.specs.Seeing.{see_step}
-use Rattle.sbp_target.specs.Receiving.{with_key}
-use Rattle.sbp_world.specs.Lines.{keyed, no_unit}
-use Rattle.sbp_world.specs.Packets.{at_initiator, initiator_expires, refused, timed_out}
 use Rattle.sbp_world.proofs.InitiatorForms as own
 use Rattle.sbp_world.proofs.Formed.{AreOwn}
 use Rattle.sbp_world.proofs.Lists.Adds.{Stays}

@@ -1,30 +1,14 @@
 -- What a call of the target hands out, as far as status blocks go: of its packets at most one writes a status block, the first one that writes; and it has the status
 -- of the ORB whose end was told last.
-use Rattle.std.proofs.Common.{◌≡◌, ◌∙◌, refl, sym, ap, ℕ, true, false, List, [], ◌∷◌, ◌++◌, length, Option, Some, None, Ok}
-use Rattle.std.proofs.lemmas.Bool.{false≢true}
+use Rattle.sbp_world.proofs.Words.Std.{◌≡◌, ◌∙◌, refl, sym, ap, ℕ, true, false, List, [], ◌∷◌, ◌++◌, length, Option, Some, None, Ok, false≢true}
+use Rattle.sbp_world.proofs.Words.Wire.{Access, Outgoing, Side, OutboxState}
+use Rattle.sbp_world.proofs.Words.Target.{Login, Table, is_live, place_at, unsolicited_block, block_head, AgentStep, Machine, Outcome, orb_of, tell_dead, tell_ended, tell_ran, tell_step}
+use Rattle.sbp_world.proofs.Words.Initiator.{start_of, window_at, StatusBlock, StatusKind, read_block, FailCause}
+use Rattle.sbp_world.proofs.Words.Laws.{access_in_bytes, is_write_in}
+use Rattle.sbp_world.proofs.Words.World.{IsPlaceWrite, IsBufferWrite, IsFifo, IsStatusWrite}
 use Rattle.bus_memory.specs.declared.window.Window.TheVariants as windows
-use Rattle.bus_memory.specs.Windows.{start as start_of, window_at}
-use Rattle.login_table.specs.declared.login.Login.{Login}
-use Rattle.login_table.specs.Table.{Table, is_live, place_at}
-use Rattle.media_bay.specs.Unsolicited.{block as unsolicited_block, block_head}
-use Rattle.orb_layout.specs.declared.status.StatusBlock.{StatusBlock}
-use Rattle.orb_layout.specs.declared.status.StatusKind.{StatusKind}
-use Rattle.orb_layout.specs.StatusBlocks.{read_block}
-use Rattle.command_agent.specs.declared.step.AgentStep.{AgentStep}
-use Rattle.command_agent.specs.Machine.{Machine}
-use Rattle.sbp_journal.specs.Addresses.{Access}
-use Rattle.sbp_laws.specs.Packets.{access_in_bytes}
-use Rattle.sbp_journal.specs.declared.outbox.Outgoing.{Outgoing}
-use Rattle.sbp_journal.specs.declared.side.Side.{Side}
 use Rattle.sbp_journal.specs.declared.side.Side.TheVariants as sides
-use Rattle.sbp_journal.specs.Outgoings.{OutboxState}
-use Rattle.sbp_laws.specs.OnceLaw.{is_write_in}
-use Rattle.orb_layout.specs.declared.ask.FailCause.{FailCause}
-use Rattle.rbc_disk.specs.declared.command.Outcome.{Outcome}
-use Rattle.sbp_target.specs.Telling.{orb_of, tell_dead, tell_ended, tell_ran, tell_step}
-use Rattle.sbp_world.specs.Lists.FifoWrites.{IsPlaceWrite}
-use Rattle.sbp_world.specs.Lists.Responding.{IsBufferWrite}
-use Rattle.sbp_world.specs.Lists.Statuses.{IsFifo, IsStatusWrite, IsTold}
+use Rattle.sbp_world.specs.Lists.Statuses.{IsTold}
 use Rattle.sbp_world.proofs.Lists.StatusBytes.{written_at}
 use Rattle.sbp_world.proofs.Lists.StatusReads.{IsRead}
 use Rattle.sbp_world.proofs.Lists.StatusSteps.{rests}

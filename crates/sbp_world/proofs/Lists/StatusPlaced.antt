@@ -1,21 +1,12 @@
 -- An ORB of the present list of an initiator, of which no status was taken, has its slot.
-use Rattle.std.proofs.Common.{◌≡◌, ◌∙◌, refl, sym, ap, subst, inl, ◌<◌, ℕ, zero, suc, List, [], ◌∷◌, map, Option, Some, None}
-use Rattle.std.specs.Prelude.{slice_index_or}
-use Rattle.std.proofs.lemmas.Option.{same_Some, none-some}
-use Rattle.orb_list.specs.declared.list.PresentList.{PresentList}
-use Rattle.orb_list.specs.declared.slot.Slot.{Slot}
-use Rattle.orb_list.specs.declared.slot.SlotState.{SlotState}
+use Rattle.sbp_world.proofs.Words.Std.{◌≡◌, ◌∙◌, refl, sym, ap, subst, inl, ◌<◌, ℕ, zero, suc, List, [], ◌∷◌, map, Option, Some, None, slice_index_or, same_Some, none-some}
+use Rattle.sbp_world.proofs.Words.Wire.{Moment}
+use Rattle.sbp_world.proofs.Words.Initiator.{PresentList, Slot, SlotState, SlotTable, slot_in, waits_in, TicketParts}
+use Rattle.sbp_world.proofs.Words.Laws.{Row, orb, present_list, slot_at, slots, taken_at, used, vacant, appends}
+use Rattle.sbp_world.proofs.Words.World.{AreRows, IfList, terms_at, name, present_in, row, row_by, HasSlot}
 use Rattle.orb_list.specs.declared.slot.SlotState.TheVariants as states
-use Rattle.orb_list.specs.Table.{SlotTable, slot_in, waits_in}
-use Rattle.orb_list.specs.Tickets.{TicketParts}
 use Rattle.orb_list.proofs.Tied.{waits_last}
-use Rattle.sbp_journal.specs.Run.{Moment}
-use Rattle.sbp_laws.specs.Lists.{SlotState as Row, orb, present_list, slot_at, slots, taken_at, used, vacant}
-use Rattle.sbp_laws.specs.Terms.{appends}
-use Rattle.sbp_world.specs.Hosts.Fits.{AreRows, IfList, terms_at}
-use Rattle.sbp_world.specs.Hosts.Rows.{name, present_in, row, row_by}
 use Rattle.sbp_world.proofs.Hosts.Over.{last_at as last_fits}
-use Rattle.sbp_world.specs.Lists.SlotsStay.{HasSlot}
 use Rattle.sbp_world.proofs.Lists.OpenListed.{stands_there}
 
 same_ticket : (x y : TicketParts) → Some x ≡ Some y → x ≡ y

@@ -1,20 +1,11 @@
 -- Two of the facts that open lists stand on at each place of a run in which no initiator injected packets, or few logins were given, and before which they were so: no status is taken of an ORB that
 -- has not ended, and an ORB whose next pointer is read again stands in its slot. By what is known of the lists that are open there, and of where the ORBs of management
 -- operations stand.
-use Rattle.std.proofs.Common.{◌≡◌, ◌<◌, ℕ, Bool, false, List, ◌++◌, length}
-use Rattle.sbp_journal.specs.Run.{Moment}
-use Rattle.sbp_laws.specs.Turns.{EachMoment}
-use Rattle.sbp_world.specs.Worlds.{WorldState, initiator_at, without_notes}
-use Rattle.sbp_world.specs.Sessions.Joined.{JoinedLaw}
+use Rattle.sbp_world.proofs.Words.Std.{◌≡◌, ◌<◌, ℕ, Bool, false, List, ◌++◌, length}
+use Rattle.sbp_world.proofs.Words.Wire.{Moment}
+use Rattle.sbp_world.proofs.Words.Laws.{EachMoment}
+use Rattle.sbp_world.proofs.Words.World.{WorldState, initiator_at, without_notes, JoinedLaw, AreRows, PointersLaw, BegunLaw, AreBehind, AreHere, AreUntaken, Under, WhereTameOrFew, IsCalm, IsTameOrFew, AreOwnOf, AllSentSo, AllStatuses, AreStatuses, SentSo}
 use Rattle.sbp_world.proofs.Agents.Management.Still.{hist}
-use Rattle.sbp_world.specs.Hosts.Fits.{AreRows}
-use Rattle.sbp_world.specs.Pointers.Pointers.{PointersLaw}
-use Rattle.sbp_world.specs.Lists.Begun.{BegunLaw}
-use Rattle.sbp_world.specs.Lists.Closes.{AreBehind, AreHere, AreUntaken, Under, WhereTameOrFew}
-use Rattle.sbp_world.specs.Lists.Needs.{IsCalm}
-use Rattle.sbp_world.specs.Lists.FewLogins.{IsTameOrFew}
-use Rattle.sbp_world.specs.Lists.OwnLogins.{AreOwnOf}
-use Rattle.sbp_world.specs.Lists.Statuses.{AllSentSo, AllStatuses, AreStatuses, SentSo}
 use Rattle.sbp_world.proofs.Lists.RunOutcomes.{AreAsked}
 use Rattle.sbp_world.proofs.Lists.StatusAnswers.{answer_free, answers_apart}
 use Rattle.sbp_world.proofs.Lists.StatusBehind.{AllFree}

@@ -1,36 +1,15 @@
 -- The present list of an initiator whose agent acts, while the two are in one generation: that of the list which the agent has open; or, as a pointer is taken, the list
 -- for which this was written.
-use Rattle.std.proofs.Common.{◌≡◌, ◌∙◌, refl, sym, ap, subst, ◌<◌, ℕ, suc, Bool, true, false, List, length, Some, Ok}
-use Rattle.std.proofs.lemmas.Option.{same_Some}
-use Rattle.async_packet.specs.Packet.{Packet}
-use Rattle.bus_transactions.specs.Wire.{as_sending}
-use Rattle.command_agent.specs.Steps.{point_step}
-use Rattle.label_table.specs.Layer.{judging_step, of_request}
-use Rattle.orb_layout.specs.declared.ask.Ask.{Ask}
-use Rattle.orb_layout.specs.declared.pointer.OrbPointer.{OrbPointer}
-use Rattle.packet_store.specs.declared.sent.Sent.{Sent}
-use Rattle.rbc_disk.specs.Disk.{Disk}
-use Rattle.sbp_bus.specs.Generations.{topology_at}
-use Rattle.sbp_journal.specs.Run.{Moment}
-use Rattle.sbp_journal.specs.Transactions.{Sending, part_of}
-use Rattle.sbp_journal.specs.Wire.{terms}
-use Rattle.sbp_laws.specs.Lists.{present_list}
-use Rattle.sbp_target.specs.Serving.{is_barred}
-use Rattle.sbp_target.specs.Telling.{orb_of}
-use Rattle.sbp_world.specs.Telling.{holder}
-use Rattle.sbp_world.specs.Wire.Wires.{Stands}
-use Rattle.sbp_world.specs.Worlds.{WorldState}
+use Rattle.sbp_world.proofs.Words.Std.{◌≡◌, ◌∙◌, refl, sym, ap, subst, ◌<◌, ℕ, suc, Bool, true, false, List, length, Some, Ok, same_Some}
+use Rattle.sbp_world.proofs.Words.Wire.{Packet, as_sending, judging_step, of_request, Sent, topology_at, Moment, Sending, part_of, terms}
+use Rattle.sbp_world.proofs.Words.Target.{point_step, Disk, is_barred, orb_of, demand_of}
+use Rattle.sbp_world.proofs.Words.Initiator.{Ask, OrbPointer}
+use Rattle.sbp_world.proofs.Words.Laws.{present_list}
+use Rattle.sbp_world.proofs.Words.World.{holder, Stands, WorldState, has_list, PointersAt, AreFirsts, IsHere, IsCalm, IsFor, OpenLists, initiator_in, machine_at, AreOpened, IsPointedBy, IsFirst}
 use Rattle.target_base.specs.declared.address.Access.TheVariants as accesses
 use Rattle.target_base.specs.declared.address.Demand.TheVariants as demands
-use Rattle.target_base.specs.Addresses.{demand_of}
-use Rattle.sbp_world.specs.Agents.Alike.{has_list}
 use Rattle.sbp_world.proofs.Agents.Management.Holding.{Holding, good_of, was_sent}
 use Rattle.sbp_world.proofs.Agents.Management.Still.{hist}
-use Rattle.sbp_world.specs.Pointers.Pointers.{PointersAt}
-use Rattle.sbp_world.specs.Lists.Closes.{AreFirsts, IsHere}
-use Rattle.sbp_world.specs.Lists.Needs.{IsCalm, IsFor, OpenLists, initiator_in, machine_at}
-use Rattle.sbp_world.specs.Lists.Opens.{AreOpened, IsPointedBy}
-use Rattle.sbp_world.specs.Lists.Places.{IsFirst}
 use Rattle.sbp_world.proofs.Lists.OpenFresh.{never_new, writes_of}
 use Rattle.sbp_world.proofs.Lists.OpenOwners.{CameFrom, came_from}
 use Rattle.sbp_world.proofs.Lists.OpenTurns.{listing_up}

@@ -1,35 +1,16 @@
 -- At each place of a run in which no initiator injected packets, or few logins were given, and before which lists were open as they should be, the target sent each status to an initiator that injected no packets as it is to be; so no status
 -- is taken of an ORB that has not ended. Each turn keeps it, together with that the writes of ORB_POINTER were named for lists.
-use Rattle.std.proofs.Common.{◌≡◌, refl, subst, ◌<◌, ◌≤◌, ℕ, Bool, false, List, [], ◌++◌, length, Option, Some, None}
-use Rattle.rbc_disk.specs.Disk.{Disk}
-use Rattle.rbc_disk.specs.Runs.{Told}
-use Rattle.sbp_journal.specs.Run.{Moment}
-use Rattle.sbp_laws.specs.Lists.{taken_at}
-use Rattle.sbp_laws.specs.Terms.{ends}
-use Rattle.sbp_laws.specs.Turns.{EachMoment}
-use Rattle.sbp_world.specs.Histories.{moments_behind}
-use Rattle.sbp_world.specs.Runs.{Run, after, beginning}
-use Rattle.sbp_world.specs.Settling.{after_all}
-use Rattle.sbp_world.specs.Worlds.{Scene, WorldState, begun, initiator_at, without_notes}
+use Rattle.sbp_world.proofs.Words.Std.{◌≡◌, refl, subst, ◌<◌, ◌≤◌, ℕ, Bool, false, List, [], ◌++◌, length, Option, Some, None}
+use Rattle.sbp_world.proofs.Words.Wire.{Moment}
+use Rattle.sbp_world.proofs.Words.Target.{Disk, Told}
+use Rattle.sbp_world.proofs.Words.Laws.{taken_at, ends, EachMoment}
+use Rattle.sbp_world.proofs.Words.World.{moments_behind, Run, after, beginning, after_all, Scene, WorldState, begun, initiator_at, without_notes, IsDelivering, AreRows, HoldsOrbs, more_deliveries, AllOfTarget, TakenOf, PointersLaw, BegunLaw, Always, AreHere, Under, IsCalm, AreOpened, AreNamedFor, AllSentSo, AreStatuses, SentSo}
 use Rattle.sbp_world.proofs.Sessions.Runs.{caught_between_law, caught_law}
 use Rattle.sbp_world.proofs.Agents.Management.Still.{hist}
-use Rattle.sbp_world.specs.Hosts.Answering.{IsDelivering}
-use Rattle.sbp_world.specs.Hosts.Fits.{AreRows}
-use Rattle.sbp_world.specs.Hosts.Orbs.{HoldsOrbs}
-use Rattle.sbp_world.specs.Hosts.Runs.{more_deliveries}
-use Rattle.sbp_world.specs.Hosts.Sources.{AllOfTarget}
-use Rattle.sbp_world.specs.Hosts.Statuses.Taking.{TakenOf}
 use Rattle.sbp_world.proofs.Hosts.Orbs.{orbs_law}
 use Rattle.sbp_world.proofs.Hosts.Quadlets.{source_law}
 use Rattle.sbp_world.proofs.Hosts.Runs.{count_after, count_between}
 use Rattle.sbp_world.proofs.Hosts.Statuses.Runs.{taking_law}
-use Rattle.sbp_world.specs.Pointers.Pointers.{PointersLaw}
-use Rattle.sbp_world.specs.Lists.Begun.{BegunLaw}
-use Rattle.sbp_world.specs.Lists.Closes.{Always, AreHere, Under}
-use Rattle.sbp_world.specs.Lists.Needs.{IsCalm}
-use Rattle.sbp_world.specs.Lists.Opens.{AreOpened}
-use Rattle.sbp_world.specs.Lists.Places.{AreNamedFor}
-use Rattle.sbp_world.specs.Lists.Statuses.{AllSentSo, AreStatuses, SentSo}
 use Rattle.sbp_world.proofs.Lists.Closes.{known}
 use Rattle.sbp_world.proofs.Lists.Executes.{asked_of}
 use Rattle.sbp_world.proofs.Lists.NamedWrites.{AllNamed, Known, first_names, names_turn}

@@ -1,21 +1,8 @@
 -- Which packets of the target write nothing: its responses, and its requests that read; and the bytes of a request are those of its body, under its label.
-use Rattle.std.proofs.Common.{arith, ◌≡◌, ◌∙◌, refl, ap, ◌<◌, ◌+◌, ◌*◌, ◌^◌, nat_eq, ℕ, Bool, true, false, cond, List, ◌++◌, Option, Some, None}
-use Rattle.async_packet.specs.declared.fault.PacketFault.{PacketFault}
-use Rattle.async_packet.specs.Canon.{canon, four, three}
-use Rattle.async_packet.specs.Fields.{tcode_of}
-use Rattle.async_packet.specs.Faults.{fault_of}
-use Rattle.async_packet.specs.Packet.{Packet, lock, lock_response, read_block, read_block_response, read_quadlet, read_quadlet_response, write_block, write_quadlet, write_response}
-use Rattle.async_packet.specs.Reading.{packet_in, reading, unless_fault}
-use Rattle.byteorder.specs.Endian.{big_bytes}
-use Rattle.label_table.specs.declared.judgement.Asked.{Asked}
-use Rattle.label_table.specs.Bodies.{Body, block_read, block_write, header_to, quadlet_read, quadlet_write, request_with, response_to}
-use Rattle.label_table.specs.Layer.{Layer, answering_step, asked_at, asking_in, asking_step, peer_at, peer_place, unlabelled}
-use Rattle.label_table.specs.Peers.{begun_for}
-use Rattle.label_table.specs.Requests.{with_label}
-use Rattle.label_table.specs.Table.{begin_at, begin_step, lowest_from}
-use Rattle.sbp_laws.specs.OnceLaw.{is_write_in}
-use Rattle.sbp_laws.specs.Packets.{access_in, access_in_bytes, spelled_by}
-use Rattle.sbp_target.specs.declared.purpose.Purpose.{Purpose}
+use Rattle.sbp_world.proofs.Words.Std.{arith, ◌≡◌, ◌∙◌, refl, ap, ◌<◌, ◌+◌, ◌*◌, ◌^◌, nat_eq, ℕ, Bool, true, false, cond, List, ◌++◌, Option, Some, None, big_bytes}
+use Rattle.sbp_world.proofs.Words.Wire.{PacketFault, canon, four, three, tcode_of, fault_of, Packet, lock, lock_response, read_block, read_block_response, read_quadlet, read_quadlet_response, write_block, write_quadlet, write_response, packet_in, reading, unless_fault, Asked, Body, block_read, block_write, header_to, quadlet_read, quadlet_write, request_with, response_to, Layer, answering_step, asked_at, asking_in, asking_step, peer_at, peer_place, unlabelled, begun_for, with_label, begin_at, begin_step, lowest_from}
+use Rattle.sbp_world.proofs.Words.Target.{Purpose}
+use Rattle.sbp_world.proofs.Words.Laws.{is_write_in, access_in, access_in_bytes, spelled_by}
 use Rattle.sbp_world.proofs.Hosts.Mild.{quad_tcode, tcode_same}
 
 -- it writes nothing

@@ -1,37 +1,15 @@
 -- At each place of a run in which no initiator injected packets, or few logins were given, and before which lists were open as they should be, an ORB whose next pointer is read again stands in
 -- its slot: it is the last one of its list that ended, and told so by the src of its status block.
-use Rattle.std.proofs.Common.{arith, ◌≡◌, ◌∙◌, refl, sym, ap, subst, ◌<◌, ℕ, suc, nat_eq, Bool, true, false, List, [], ◌∷◌, ◌++◌, map, length, Some}
-use Rattle.std.proofs.lemmas.Bool.Decides.{nat_tests}
-use Rattle.std.proofs.lemmas.Bool.{false≢true}
-use Rattle.rbc_disk.specs.Disk.{Disk}
-use Rattle.bus_transactions.specs.Wire.{Node}
-use Rattle.sbp_bus.specs.Generations.{topology_at}
-use Rattle.sbp_journal.specs.Run.{Moment, asked, said}
-use Rattle.sbp_journal.specs.Wire.{Terms, terms}
-use Rattle.sbp_laws.specs.Terms.{lists}
-use Rattle.sbp_laws.specs.Lawful.{injectors}
-use Rattle.sbp_world.specs.Histories.{history_of, moments_behind}
-use Rattle.sbp_world.specs.Making.{new_world}
-use Rattle.sbp_world.specs.Runs.{Run, after, beginning}
-use Rattle.sbp_world.specs.Settling.{after_all}
-use Rattle.sbp_world.specs.Telling.{holder}
-use Rattle.sbp_world.specs.Wire.Wires.{Stands}
-use Rattle.sbp_world.specs.Worlds.{Scene, WorldState, begun, initiator_at}
+use Rattle.sbp_world.proofs.Words.Std.{arith, ◌≡◌, ◌∙◌, refl, sym, ap, subst, ◌<◌, ℕ, suc, nat_eq, Bool, true, false, List, [], ◌∷◌, ◌++◌, map, length, Some, nat_tests, false≢true}
+use Rattle.sbp_world.proofs.Words.Wire.{Node, topology_at, Moment, asked, said, Terms, terms}
+use Rattle.sbp_world.proofs.Words.Target.{Disk}
+use Rattle.sbp_world.proofs.Words.Laws.{lists, injectors}
+use Rattle.sbp_world.proofs.Words.World.{history_of, moments_behind, new_world, Run, after, beginning, after_all, holder, Stands, Scene, WorldState, begun, initiator_at, JoinedLaw, has_list, AreHeldAt, AreRows, Lasts, more_deliveries, Always, AreBehind, AreHere, AreUntaken, IsHere, Under, WhereTameOrFew, IsCalm, initiator_in, machine_at, AreOpened, AllStatuses, IsTameOrFew}
 use Rattle.sbp_world.proofs.Wire.Bus.{holds}
-use Rattle.sbp_world.specs.Sessions.Joined.{JoinedLaw}
-use Rattle.sbp_world.specs.Agents.Alike.{has_list}
-use Rattle.sbp_world.specs.Agents.Holders.{AreHeldAt}
 use Rattle.sbp_world.proofs.Agents.Management.Holding.{past_terms, target_generation}
 use Rattle.sbp_world.proofs.Agents.Management.Still.{hist}
-use Rattle.sbp_world.specs.Hosts.Fits.{AreRows}
-use Rattle.sbp_world.specs.Hosts.Lasting.{Lasts}
-use Rattle.sbp_world.specs.Hosts.Runs.{more_deliveries}
 use Rattle.sbp_world.proofs.Hosts.Lasting.{lasting_law}
 use Rattle.sbp_world.proofs.Hosts.Runs.{count_after, count_between, run_law}
-use Rattle.sbp_world.specs.Lists.Closes.{Always, AreBehind, AreHere, AreUntaken, IsHere, Under, WhereTameOrFew}
-use Rattle.sbp_world.specs.Lists.Needs.{IsCalm, initiator_in, machine_at}
-use Rattle.sbp_world.specs.Lists.Opens.{AreOpened}
-use Rattle.sbp_world.specs.Lists.Statuses.{AllStatuses}
 use Rattle.sbp_world.proofs.Lists.Executes.{asked_of}
 use Rattle.sbp_world.proofs.Lists.JoinLaws.{begins_after, begins_between}
 use Rattle.sbp_world.proofs.Lists.Joins.{Begins}
@@ -48,7 +26,6 @@ use Rattle.sbp_world.proofs.Lists.StatusTurn.{Up}
 use Rattle.sbp_world.proofs.Lists.StatusTurns.{turn_held}
 use Rattle.sbp_world.proofs.Lists.StatusUps.{generation_is, up_open}
 use Rattle.sbp_world.proofs.Lists.Turns.{Ready}
-use Rattle.sbp_world.specs.Lists.FewLogins.{IsTameOrFew}
 use Rattle.sbp_world.proofs.Lists.Beside.{tame_or_few_before}
 use Rattle.sbp_world.proofs.Lists.TameWalks.{still_after, still_between}
 use Rattle.sbp_world.proofs.Lists.Walks.{Step, Walks}

@@ -1,27 +1,12 @@
 -- The packets of the target that leave behind an end: of those to an initiator, one that writes a status block is the packet of the ORB that ended.
-use Rattle.std.proofs.Common.{arith, ◌≡◌, ◌∙◌, refl, sym, ap, subst, ◌≤◌, ◌==◌, ◌&&◌, ◌+◌, ℕ, suc, Bool, true, false, cond, List, [], ◌∷◌, Option, Some, None}
-use Rattle.std.proofs.lemmas.Bool.{false≢true}
-use Rattle.async_packet.specs.Labels.{LabelParts}
-use Rattle.bus_memory.specs.Windows.{slot_of}
-use Rattle.command_agent.specs.Machine.{Machine}
-use Rattle.orb_layout.specs.declared.status.StatusBlock.{StatusBlock}
-use Rattle.sbp_bus.specs.Generations.{GenerationsState, node_of, topology_at}
-use Rattle.sbp_journal.specs.Addresses.{Access}
-use Rattle.sbp_world.specs.Hosts.Statuses.Taking.{is_place_fifo}
-use Rattle.sbp_journal.specs.Run.{Moment, said}
-use Rattle.sbp_journal.specs.Wire.{terms}
+use Rattle.sbp_world.proofs.Words.Std.{arith, ◌≡◌, ◌∙◌, refl, sym, ap, subst, ◌≤◌, ◌==◌, ◌&&◌, ◌+◌, ℕ, suc, Bool, true, false, cond, List, [], ◌∷◌, Option, Some, None, false≢true}
+use Rattle.sbp_world.proofs.Words.Wire.{LabelParts, GenerationsState, node_of, topology_at, Access, Moment, said, terms, Outgoing}
+use Rattle.sbp_world.proofs.Words.Target.{Machine}
+use Rattle.sbp_world.proofs.Words.Initiator.{slot_of, StatusBlock}
+use Rattle.sbp_world.proofs.Words.Laws.{orb, is_write_in, access_in_bytes, EndedOrb, first_of, is_due, status_due, status_packet, EachMoment}
+use Rattle.sbp_world.proofs.Words.World.{is_place_fifo, under_way, posted, sent, sent_all, sent_to, WorldState, HasSlot, IsEndedAs, IsSentSo, IsStatusWrite, SentSo}
 use Rattle.sbp_journal.specs.declared.note.Note.TheVariants as notes
-use Rattle.sbp_journal.specs.declared.outbox.Outgoing.{Outgoing}
-use Rattle.sbp_laws.specs.Lists.{orb}
-use Rattle.sbp_laws.specs.OnceLaw.{is_write_in}
-use Rattle.sbp_laws.specs.Packets.{access_in_bytes}
-use Rattle.sbp_laws.specs.StatusLaw.{EndedOrb, first_of, is_due, status_due, status_packet}
-use Rattle.sbp_laws.specs.Turns.{EachMoment}
-use Rattle.sbp_world.specs.Sending.{asked as under_way, posted, sent, sent_all, sent_to}
-use Rattle.sbp_world.specs.Worlds.{WorldState}
 use Rattle.sbp_world.proofs.Agents.Management.Still.{hist}
-use Rattle.sbp_world.specs.Lists.SlotsStay.{HasSlot}
-use Rattle.sbp_world.specs.Lists.Statuses.{IsEndedAs, IsSentSo, IsStatusWrite, SentSo}
 use Rattle.sbp_world.proofs.Lists.Generations.{not_lower}
 use Rattle.sbp_world.proofs.Lists.StatusMoments.{HasTaken}
 use Rattle.sbp_world.proofs.Lists.StatusPackets.{AllPlain, EndSide, IsOfEnd, IsPlain, OfEnd, Spelled, read_plain, sends_none, sends_read, sends_write}

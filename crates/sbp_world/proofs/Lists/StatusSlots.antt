@@ -1,9 +1,9 @@
 -- A slot has its ORB behind one more moment in which no generation is seen, while no status of the ORB is taken.
-use Rattle.std.proofs.Common.{◌≡◌, sym, ap, subst, ◌∙◌, inl, inr, ◌⊎◌, ℕ, suc, List, [], ◌∷◌, ◌++◌}
-use Rattle.sbp_journal.specs.Run.{Moment, said}
+use Rattle.sbp_world.proofs.Words.Std.{◌≡◌, sym, ap, subst, ◌∙◌, inl, inr, ◌⊎◌, ℕ, suc, List, [], ◌∷◌, ◌++◌}
+use Rattle.sbp_world.proofs.Words.Wire.{Moment, said}
+use Rattle.sbp_world.proofs.Words.Laws.{Orb}
+use Rattle.sbp_world.proofs.Words.World.{HasSlot, IsGone, saw, was_over}
 use Rattle.sbp_journal.specs.declared.note.Note.TheVariants as notes
-use Rattle.sbp_laws.specs.Lists.{Orb}
-use Rattle.sbp_world.specs.Lists.SlotsStay.{HasSlot, IsGone, saw, was_over}
 use Rattle.sbp_world.proofs.Lists.SlotsHeld.{slots_stay_law}
 use Rattle.sbp_world.proofs.Lists.StatusMoments.{HasTaken, over_taken, taken_stays}
 use Rattle.sbp_world.proofs.Common.{moments_split}

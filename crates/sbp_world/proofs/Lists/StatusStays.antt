@@ -1,15 +1,10 @@
 -- How an ORB stands in its slot over a turn, while it is not over: in the target's generation the slot has it; and while its initiator is ahead of the target no other ORB
 -- is prepared, so that it is the last one which was prepared there.
-use Rattle.std.proofs.Common.{arith, ◌≡◌, ◌∙◌, refl, sym, ap, subst, inl, inr, ◌⊎◌, ◌<◌, ◌≤◌, ◌==◌, ℕ, suc, nat_eq, Bool, true, false, cond, List, [], ◌∷◌, ◌++◌, map, Some}
-use Rattle.std.proofs.lemmas.Bool.Decides.{nat_tests}
-use Rattle.std.proofs.lemmas.Bool.{false≢true}
-use Rattle.sbp_journal.specs.Run.{Moment, said}
-use Rattle.sbp_journal.specs.Wire.{terms}
-use Rattle.sbp_journal.specs.declared.note.Note.{Note}
+use Rattle.sbp_world.proofs.Words.Std.{arith, ◌≡◌, ◌∙◌, refl, sym, ap, subst, inl, inr, ◌⊎◌, ◌<◌, ◌≤◌, ◌==◌, ℕ, suc, nat_eq, Bool, true, false, cond, List, [], ◌∷◌, ◌++◌, map, Some, nat_tests, false≢true}
+use Rattle.sbp_world.proofs.Words.Wire.{Moment, said, terms, Note}
+use Rattle.sbp_world.proofs.Words.Laws.{is_over, orb, prepared_in, slot_at}
+use Rattle.sbp_world.proofs.Words.World.{AllOf, of_rest, HasSlot, IsGone, saw, was_over}
 use Rattle.sbp_journal.specs.declared.note.Note.TheVariants as notes
-use Rattle.sbp_laws.specs.Lists.{is_over, orb, prepared_in, slot_at}
-use Rattle.sbp_world.specs.Lists.Opened.{AllOf, of_rest}
-use Rattle.sbp_world.specs.Lists.SlotsStay.{HasSlot, IsGone, saw, was_over}
 use Rattle.sbp_world.proofs.Lists.Joins.{Begins}
 use Rattle.sbp_world.proofs.Lists.OpenedMoments.{Same, all_same}
 use Rattle.sbp_world.proofs.Lists.Rises.{Rises}

@@ -1,39 +1,17 @@
 -- What a step of an agent leaves of its last status block: a step that ends an ORB has its block to write, which names the present ORB and tells by src whether its
 -- next pointer is null or was not read; and an agent is at the end of its list only behind such a block, or where it was there before.
-use Rattle.std.proofs.Common.{◌≡◌, ◌∙◌, refl, sym, ap, arith, ◌<◌, ◌==◌, ◌+◌, ◌*◌, ◌^◌, ◌&&◌, not, nat_lt, ℕ, Bool, true, false, cond, List, ◌++◌, length, Option, Some, None, IfSome, Result, Ok, Err}
-use Rattle.std.specs.Prelude.{if◌then◌else◌}
-use Rattle.std.proofs.lemmas.Bool.{false≢true}
+use Rattle.sbp_world.proofs.Words.Std.{◌≡◌, ◌∙◌, refl, sym, ap, arith, ◌<◌, ◌==◌, ◌+◌, ◌*◌, ◌^◌, ◌&&◌, not, nat_lt, ℕ, Bool, true, false, cond, List, ◌++◌, length, Option, Some, None, IfSome, Result, Ok, Err, if◌then◌else◌, false≢true}
+use Rattle.sbp_world.proofs.Words.Target.{Need, Outcome, Told, need_of, PlainDisk, Phase, ReadAhead, AgentStep, Move, Which, Ahead, Main, death_by, reads_table, refusal, verdict, Machine, chunk_of, has_present, is_ahead, plan_of, advanced, ahead_lost, ahead_of, ahead_read, ahead_step, answer_chunk, block_of, check_step, checked, chunk_written, data_grown, data_read, data_step, elements_read, end_step, follow_step, judge_step, judged, lost_step, main_lost, next_read, orb_read, passed_step, quiet, ran_as, reply_step, reread_step, run_step, sent, served, table_read, told_or, turn_step, unread_buffer, wait_step, with_outcome}
+use Rattle.sbp_world.proofs.Words.Initiator.{FailCause, CommandOrb, OrbPointer, Null, At, StatusKind, pointer_at, Answer, payload_of, write_failure, status_bytes, PageFault, elements_of, first_fault}
 use Rattle.orb_layout.specs.declared.ask.Ask.TheVariants as asks
-use Rattle.orb_layout.specs.declared.ask.FailCause.{FailCause}
 use Rattle.orb_layout.specs.declared.ask.FailCause.TheVariants as causes
-use Rattle.orb_layout.specs.declared.command.CommandOrb.{CommandOrb}
-use Rattle.orb_layout.specs.declared.pointer.OrbPointer.{OrbPointer}
-use Rattle.orb_layout.specs.declared.pointer.OrbPointer.TheVariants.{Null, At}
-use Rattle.orb_layout.specs.declared.status.StatusKind.{StatusKind}
 use Rattle.orb_layout.specs.declared.status.StatusKind.TheVariants as kinds
-use Rattle.orb_layout.specs.Pointers.{pointer_at}
-use Rattle.orb_layout.specs.Replies.{Answer, payload_of, write_failure}
-use Rattle.orb_layout.specs.StatusBlocks.{status_bytes}
-use Rattle.page_table.specs.declared.fault.PageFault.{PageFault}
-use Rattle.page_table.specs.Elements.{elements_of, first_fault}
-use Rattle.rbc_disk.specs.declared.command.Need.{Need}
 use Rattle.rbc_disk.specs.declared.command.Need.TheVariants as needs
-use Rattle.rbc_disk.specs.declared.command.Outcome.{Outcome}
 use Rattle.rbc_disk.specs.declared.command.Outcome.TheVariants as outcomes
-use Rattle.rbc_disk.specs.Runs.{Told, need_of}
-use Rattle.rbc_disk.specs.Units.{PlainDisk}
-use Rattle.command_agent.specs.declared.phase.Phase.{Phase}
 use Rattle.command_agent.specs.declared.phase.Phase.TheVariants as phases
-use Rattle.command_agent.specs.declared.phase.ReadAhead.{ReadAhead}
 use Rattle.command_agent.specs.declared.phase.ReadAhead.TheVariants as aheads
-use Rattle.command_agent.specs.declared.step.AgentStep.{AgentStep}
-use Rattle.command_agent.specs.declared.step.Move.{Move}
 use Rattle.command_agent.specs.declared.step.Move.TheVariants as moves
-use Rattle.command_agent.specs.declared.step.Which.{Which}
-use Rattle.command_agent.specs.declared.step.Which.TheVariants.{Ahead, Main}
-use Rattle.command_agent.specs.Checks.{death_by, reads_table, refusal, verdict}
-use Rattle.command_agent.specs.Machine.{Machine, chunk_of, has_present, is_ahead, plan_of}
-use Rattle.command_agent.specs.Steps.{advanced, ahead_lost, ahead_of, ahead_read, ahead_step, answer_chunk, answer_step, block_of, check_step, checked, chunk_written, data_grown, data_read, data_step, elements_read, end_step, follow_step, judge_step, judged, lost_step, main_lost, next_read, orb_read, passed_step, quiet, ran_as, reply_step, reread_step, run_step, sent, served, status_written, table_read, told_or, turn_step, unread_buffer, wait_step, with_outcome}
+use Rattle.command_agent.specs.Steps.{answer_step, status_written}
 
 -- a status that an agent ends an ORB with: none of management, and one whose meaning is a byte
 abbrev pub IsFair : StatusKind → Type 0

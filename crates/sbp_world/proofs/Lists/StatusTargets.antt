@@ -1,55 +1,19 @@
 -- Each turn of the target keeps that the last ORB of a list stands in its slot while its agent is at the end of the list: a packet that it gets, a transaction of it that times
 -- out, a second, and a generation that it sees.
-use Rattle.std.proofs.Common.{arith, ◌≡◌, ◌∙◌, refl, sym, ap, subst, inl, inr, ◌⊎◌, ◌<◌, ◌≤◌, ◌||◌, not, ℕ, nat_eq, nat_lt, Bool, true, false, cond, List, ◌∷◌, ◌++◌, map, length, Option, Some, None, Ok}
-use Rattle.std.proofs.lemmas.Bool.Decides.{nat_tests}
-use Rattle.std.proofs.Math.ListN.{get_or-map}
-use Rattle.std.proofs.lemmas.Bool.{false≢true}
-use Rattle.async_packet.specs.Labels.{LabelParts}
-use Rattle.async_packet.specs.Packet.{Packet}
-use Rattle.command_agent.specs.declared.step.AgentStep.{AgentStep}
-use Rattle.command_agent.specs.declared.step.Which.{Which}
-use Rattle.command_agent.specs.declared.step.Which.TheVariants.{Ahead, Main}
-use Rattle.command_agent.specs.Steps.{lost_step, point_step}
-use Rattle.label_table.specs.Layer.{Layer, judging_step, of_request, seeing_step, seen_in_generation}
-use Rattle.login_table.specs.declared.login.Login.{Login}
-use Rattle.orb_layout.specs.declared.ask.Ask.{Ask}
+use Rattle.sbp_world.proofs.Words.Std.{arith, ◌≡◌, ◌∙◌, refl, sym, ap, subst, inl, inr, ◌⊎◌, ◌<◌, ◌≤◌, ◌||◌, not, ℕ, nat_eq, nat_lt, Bool, true, false, cond, List, ◌∷◌, ◌++◌, map, length, Option, Some, None, Ok, nat_tests, get_or-map, false≢true}
+use Rattle.sbp_world.proofs.Words.Wire.{LabelParts, Packet, Layer, judging_step, of_request, seeing_step, seen_in_generation, Sent, found_sent, is_flying, deliver_step, Holder, judged_note, holder_at, or_nobody, list_in, Judged, Note, empty_outbox, Moment, said, terms, id_of}
+use Rattle.sbp_world.proofs.Words.Target.{AgentStep, Which, Ahead, Main, lost_step, point_step, Login, Told, Purpose, NodeState, TargetScene, desk_at, scene, login_at, received, cleared_node, reset_by, seen, timed_out, Whole, is_barred, orb_of, demand_of, held_login, is_live, place_at, alone, sees, ticks, cut_all}
+use Rattle.sbp_world.proofs.Words.Initiator.{Ask, OrbPointer}
+use Rattle.sbp_world.proofs.Words.Laws.{status_due}
+use Rattle.sbp_world.proofs.Words.World.{marked, whole_of, handed_out, holder, ticket_at, told_all, Scene, WorldState, with_note, with_target, has_list, AreOthers, IsFor, machine_at, IsCalm, see_line, target_sees, target_ticks, tick_line, told_seen, with_seen}
 use Rattle.orb_layout.specs.declared.ask.Ask.TheVariants as asks
 use Rattle.orb_layout.specs.declared.ask.FailCause.TheVariants as causes
-use Rattle.orb_layout.specs.declared.pointer.OrbPointer.{OrbPointer}
-use Rattle.packet_store.specs.declared.sent.Sent.{Sent}
-use Rattle.packet_store.specs.Kept.{found_sent, is_flying}
-use Rattle.packet_store.specs.Stored.{deliver_step}
-use Rattle.rbc_disk.specs.Runs.{Told}
-use Rattle.sbp_bus.specs.declared.places.Holder.{Holder}
-use Rattle.sbp_bus.specs.Packets.{judged_note}
-use Rattle.sbp_bus.specs.Places.{holder_at, or_nobody}
-use Rattle.sbp_bus.specs.Telling.{list_in}
-use Rattle.sbp_journal.specs.declared.cause.Judged.{Judged}
 use Rattle.sbp_journal.specs.declared.cause.Judged.TheVariants as judgements
-use Rattle.sbp_journal.specs.declared.note.Note.{Note}
 use Rattle.sbp_journal.specs.declared.note.Note.TheVariants as notes
-use Rattle.sbp_journal.specs.Outgoings.{empty_outbox}
-use Rattle.sbp_journal.specs.Run.{Moment, said}
-use Rattle.sbp_journal.specs.Wire.{terms}
-use Rattle.sbp_laws.specs.StatusLaw.{status_due}
-use Rattle.sbp_target.specs.declared.purpose.Purpose.{Purpose}
-use Rattle.sbp_target.specs.Nodes.{NodeState, Scene as TargetScene, desk_at, scene, login_at}
-use Rattle.sbp_target.specs.Receiving.{received, cleared_node, reset_by, seen, timed_out}
-use Rattle.sbp_target.specs.Replies.{Whole}
-use Rattle.sbp_target.specs.Serving.{is_barred}
-use Rattle.sbp_target.specs.Telling.{orb_of}
-use Rattle.sbp_world.specs.Delivering.{marked, whole_of}
-use Rattle.sbp_world.specs.Handing.{handed_out}
-use Rattle.sbp_world.specs.Telling.{holder, ticket_at, told_all}
-use Rattle.sbp_world.specs.Worlds.{Scene, WorldState, with_note, with_target}
 use Rattle.sbp_world.proofs.Wire.Nodes.{handed_alike}
 use Rattle.target_base.specs.declared.address.Access.TheVariants as accesses
 use Rattle.target_base.specs.declared.address.Demand.TheVariants as demands
-use Rattle.target_base.specs.Addresses.{demand_of}
-use Rattle.sbp_world.specs.Agents.Alike.{has_list}
 use Rattle.sbp_world.proofs.Agents.Management.Still.{hist}
-use Rattle.sbp_world.specs.Hosts.Handing.{AreOthers}
-use Rattle.sbp_world.specs.Lists.Needs.{IsFor, machine_at, IsCalm}
 use Rattle.sbp_world.proofs.Lists.Adds.{all_stay}
 use Rattle.sbp_world.proofs.Lists.Deliveries.{waits_has}
 use Rattle.sbp_world.proofs.Lists.Generations.{moment_generation}
@@ -62,12 +26,7 @@ use Rattle.sbp_world.proofs.Lists.StatusCalls.{delivery_called, lapse_called}
 use Rattle.sbp_world.proofs.Lists.StatusDue.{Ours, late_step_of, point_small, reply_step_of, ring_small}
 use Rattle.sbp_world.proofs.Lists.StatusLosses.{lost_asks, quiet_ahead}
 use Rattle.sbp_world.proofs.Lists.Turns.{Ready}
-use Rattle.login_table.specs.Table.{held as held_login, is_live, place_at}
-use Rattle.sbp_bus.specs.Generations.{id_of}
 use Rattle.sbp_journal.specs.declared.cause.CutCause.TheVariants as cuts
-use Rattle.sbp_target.specs.Calls.{alone, sees, ticks}
-use Rattle.sbp_target.specs.Units.{cut_all}
-use Rattle.sbp_world.specs.Nodes.{see_line, target_sees, target_ticks, tick_line, told_seen, with_seen}
 use Rattle.sbp_world.specs.Nodes as nodes
 use Rattle.sbp_world.proofs.Hosts.Hands.{hand_law}
 use Rattle.sbp_world.proofs.Lists.OpenManages as manages

@@ -1,27 +1,12 @@
 -- What is told of the agent of a place, by the history: the ORB of the end that was told last has its status due, and ended with that; no packet leaves.
-use Rattle.std.proofs.Common.{arith, ◌≡◌, ◌∙◌, refl, sym, ap, subst, ◌≤◌, nat_eq, ℕ, Bool, false, cond, List, [], ◌∷◌, ◌++◌, Option, Some, None, ◌<◌, suc}
-use Rattle.std.proofs.lemmas.Bool.{false≢true}
-use Rattle.std.proofs.lemmas.Option.{none-some, same_Some}
-use Rattle.orb_layout.specs.declared.status.StatusKind.{StatusKind}
-use Rattle.orb_list.specs.Tickets.{TicketParts}
-use Rattle.sbp_bus.specs.declared.places.Holder.{Holder}
-use Rattle.sbp_bus.specs.Places.{holder_at, opened_by, opened_step, or_nobody, place_in}
-use Rattle.sbp_bus.specs.Telling.{dead_note, ended_note, list_in, orb_in, ran_note}
-use Rattle.sbp_journal.specs.declared.note.Note.{Note}
+use Rattle.sbp_world.proofs.Words.Std.{arith, ◌≡◌, ◌∙◌, refl, sym, ap, subst, ◌≤◌, nat_eq, ℕ, Bool, false, cond, List, [], ◌∷◌, ◌++◌, Option, Some, None, ◌<◌, suc, false≢true, none-some, same_Some}
+use Rattle.sbp_world.proofs.Words.Wire.{Holder, holder_at, opened_by, opened_step, or_nobody, place_in, dead_note, ended_note, list_in, orb_in, ran_note, Note, Side, Moment, said, terms}
+use Rattle.sbp_world.proofs.Words.Initiator.{StatusKind, TicketParts}
+use Rattle.sbp_world.proofs.Words.Laws.{Orb, orb, taken_at, status_due, status_packet, appends, ended_status, ends, lists, EachMoment}
+use Rattle.sbp_world.proofs.Words.World.{holder, ticket_at, ticket_of, told, told_all, WorldState, HasSlot, SentSo}
 use Rattle.sbp_journal.specs.declared.note.Note.TheVariants as notes
-use Rattle.sbp_journal.specs.declared.side.Side.{Side}
 use Rattle.sbp_journal.specs.declared.side.Side.TheVariants as sides
-use Rattle.sbp_journal.specs.Run.{Moment, said}
-use Rattle.sbp_journal.specs.Wire.{terms}
-use Rattle.sbp_laws.specs.Lists.{Orb, orb, taken_at}
-use Rattle.sbp_laws.specs.StatusLaw.{status_due, status_packet}
-use Rattle.sbp_laws.specs.Terms.{appends, ended_status, ends, lists}
-use Rattle.sbp_laws.specs.Turns.{EachMoment}
-use Rattle.sbp_world.specs.Telling.{holder, ticket_at, ticket_of, told, told_all}
-use Rattle.sbp_world.specs.Worlds.{WorldState}
 use Rattle.sbp_world.proofs.Agents.Management.Still.{hist}
-use Rattle.sbp_world.specs.Lists.SlotsStay.{HasSlot}
-use Rattle.sbp_world.specs.Lists.Statuses.{SentSo}
 use Rattle.sbp_world.proofs.Lists.OpenPlaces.{opened_here}
 use Rattle.sbp_world.proofs.Lists.Passing.{PassLaw}
 use Rattle.sbp_world.proofs.Lists.StatusMoments.{HasTaken, ends_grow}

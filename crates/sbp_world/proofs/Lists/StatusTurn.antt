@@ -1,70 +1,22 @@
 -- A delivery to the target, and a time-out of its own, send each status to an initiator as it is to be, where this is known of what acts, and of the management.
-use Rattle.std.proofs.Common.{arith, ◌≡◌, ◌∙◌, refl, sym, ap, subst, ◌<◌, ◌≤◌, ℕ, suc, nat_lt, Bool, false, cond, List, [], ◌∷◌, ◌++◌, map, length, Option, Some, None, Ok, true}
-use Rattle.async_packet.specs.Labels.{LabelParts}
-use Rattle.async_packet.specs.Packet.{Packet, header_in}
-use Rattle.bus_memory.specs.Windows.{slot_of}
-use Rattle.label_table.specs.Layer.{Layer, judging_step, of_request, of_response}
-use Rattle.login_table.specs.declared.login.Login.{Login}
-use Rattle.login_table.specs.Table.{is_live}
-use Rattle.orb_layout.specs.declared.ask.Ask.{Ask}
+use Rattle.sbp_world.proofs.Words.Std.{arith, ◌≡◌, ◌∙◌, refl, sym, ap, subst, ◌<◌, ◌≤◌, ℕ, suc, nat_lt, Bool, false, cond, List, [], ◌∷◌, ◌++◌, map, length, Option, Some, None, Ok, true, slice_index_or}
+use Rattle.sbp_world.proofs.Words.Wire.{LabelParts, Packet, header_in, Layer, judging_step, of_request, of_response, Sent, node_of, topology_at, judged_note, holder_at, Cause, Judged, Note, Outgoing, Moment, said, terms}
+use Rattle.sbp_world.proofs.Words.Target.{Login, is_live, Held, Told, AgentStep, Which, Ahead, Main, lost_step, point_step, reply_step, Purpose, which_in, manage, Scene, desk_at, login_at, scene, answer_in, received, timed_out, Whole, plain_in, is_barred, demand_of}
+use Rattle.sbp_world.proofs.Words.Initiator.{slot_of, Ask, Answer, OrbPointer, TicketParts, InitiatorState, new_state, last_at, last_in, SlotTable, slot_in}
+use Rattle.sbp_world.proofs.Words.Laws.{Orb, TakenStatus, orb, present_list, taken_at, status_packet, appends, ends, lists, EachMoment}
+use Rattle.sbp_world.proofs.Words.World.{whole_of, handed_out, holder, ticket_of, WorldState, initiator_at, has_list, AreOthers, AreRows, terms_at, IsFor, machine_at, HasSlot, AreStatuses, SentSo, is_place_fifo, AreOwnOf, IsLoginFifo}
 use Rattle.orb_layout.specs.declared.ask.Ask.TheVariants as asks
 use Rattle.orb_layout.specs.declared.ask.FailCause.TheVariants as causes
-use Rattle.orb_layout.specs.Replies.{Answer}
-use Rattle.orb_layout.specs.declared.pointer.OrbPointer.{OrbPointer}
-use Rattle.orb_list.specs.Tickets.{TicketParts}
-use Rattle.packet_store.specs.declared.sent.Sent.{Sent}
-use Rattle.rbc_disk.specs.Held.{Held}
-use Rattle.rbc_disk.specs.Runs.{Told}
-use Rattle.command_agent.specs.declared.step.AgentStep.{AgentStep}
-use Rattle.command_agent.specs.declared.step.Which.{Which}
-use Rattle.command_agent.specs.declared.step.Which.TheVariants.{Ahead, Main}
-use Rattle.command_agent.specs.Steps.{lost_step, point_step, reply_step}
-use Rattle.sbp_bus.specs.Generations.{node_of, topology_at}
-use Rattle.sbp_bus.specs.Packets.{judged_note}
-use Rattle.sbp_bus.specs.Places.{holder_at}
-use Rattle.sbp_initiator.specs.declared.state.InitiatorState.{InitiatorState}
-use Rattle.sbp_initiator.specs.Initiators.{new_state}
-use Rattle.orb_list.specs.Lists.{last_at, last_in}
-use Rattle.std.specs.Prelude.{slice_index_or}
-use Rattle.sbp_journal.specs.declared.cause.Cause.{Cause}
-use Rattle.sbp_journal.specs.declared.cause.Judged.{Judged}
 use Rattle.sbp_journal.specs.declared.cause.Judged.TheVariants as judgements
-use Rattle.sbp_journal.specs.declared.note.Note.{Note}
 use Rattle.sbp_journal.specs.declared.note.Note.TheVariants as notes
-use Rattle.sbp_journal.specs.declared.outbox.Outgoing.{Outgoing}
-use Rattle.sbp_journal.specs.Run.{Moment, said}
-use Rattle.sbp_journal.specs.Wire.{terms}
-use Rattle.sbp_laws.specs.Lists.{Orb, TakenStatus, orb, present_list, taken_at}
-use Rattle.sbp_laws.specs.StatusLaw.{status_packet}
-use Rattle.sbp_laws.specs.Terms.{appends, ends, lists}
-use Rattle.sbp_laws.specs.Turns.{EachMoment}
-use Rattle.sbp_target.specs.declared.purpose.Purpose.{Purpose}
 use Rattle.sbp_target.specs.declared.purpose.Purpose.TheVariants as purposes
-use Rattle.sbp_target.specs.Desks.{which_in}
-use Rattle.sbp_target.specs.Management.{manage}
-use Rattle.sbp_target.specs.Nodes.{Scene, desk_at, login_at, scene}
-use Rattle.sbp_target.specs.Receiving.{answer_in, received, timed_out}
-use Rattle.sbp_target.specs.Replies.{Whole, plain_in}
-use Rattle.sbp_target.specs.Serving.{is_barred}
-use Rattle.sbp_world.specs.Delivering.{whole_of}
-use Rattle.sbp_world.specs.Handing.{handed_out}
-use Rattle.sbp_world.specs.Telling.{holder, ticket_of}
-use Rattle.sbp_world.specs.Worlds.{WorldState, initiator_at}
 use Rattle.target_base.specs.declared.address.Access.TheVariants as accesses
 use Rattle.target_base.specs.declared.address.Demand.TheVariants as demands
-use Rattle.target_base.specs.Addresses.{demand_of}
-use Rattle.sbp_world.specs.Agents.Alike.{has_list}
 use Rattle.sbp_world.proofs.Agents.Management.Still.{hist}
-use Rattle.sbp_world.specs.Hosts.Handing.{AreOthers}
 use Rattle.bus_memory.proofs.Found.{slot_of_law}
-use Rattle.orb_list.specs.Table.{SlotTable, slot_in}
-use Rattle.sbp_world.specs.Hosts.Fits.{AreRows, terms_at}
 use Rattle.sbp_world.proofs.Hosts.Over.{last_at as last_fits}
 use Rattle.sbp_world.proofs.Lists.StatusPlaced.{has_slot}
 use Rattle.sbp_world.proofs.Lists.StatusKept.{untaken_above}
-use Rattle.sbp_world.specs.Lists.Needs.{IsFor, machine_at}
-use Rattle.sbp_world.specs.Lists.SlotsStay.{HasSlot}
-use Rattle.sbp_world.specs.Lists.Statuses.{AreStatuses, SentSo}
 use Rattle.sbp_world.proofs.Lists.Generations.{moment_generation}
 use Rattle.sbp_world.proofs.Lists.Passing.{PassLaw}
 use Rattle.sbp_world.proofs.Lists.StatusActs.{M, first}
@@ -73,8 +25,6 @@ use Rattle.sbp_world.proofs.Lists.StatusCalls.{Called, acts, delivery_called, go
 use Rattle.sbp_world.proofs.Lists.StatusDue.{Ours, late_step_of, point_small, reply_step_of, ring_small}
 use Rattle.sbp_world.proofs.Lists.StatusFollows.{Followed}
 use Rattle.sbp_world.proofs.Lists.StatusHanded.{Starts, none_told, one_told}
-use Rattle.sbp_world.specs.Hosts.Statuses.Taking.{is_place_fifo}
-use Rattle.sbp_world.specs.Lists.OwnLogins.{AreOwnOf, IsLoginFifo}
 use Rattle.sbp_world.proofs.Lists.OwnFifos.{fifo_low, fifo_no_place}
 use Rattle.sbp_world.proofs.Lists.StatusSends.{AllOut}
 use Rattle.sbp_world.proofs.Lists.StatusLosses.{lost_asks, quiet_ahead}

@@ -1,35 +1,15 @@
 -- The agent of a place whose login is live: where packets that leave to its node are one initiator's, this has the place, and is in the target's generation or ahead.
-use Rattle.std.proofs.Common.{arith, ◌≡◌, ◌∙◌, sym, ap, subst, ◌<◌, ◌≤◌, ◌+◌, ℕ, suc, Bool, true, false, List, length, Some}
-use Rattle.std.proofs.lemmas.Option.{same_Some}
+use Rattle.sbp_world.proofs.Words.Std.{arith, ◌≡◌, ◌∙◌, sym, ap, subst, ◌<◌, ◌≤◌, ◌+◌, ℕ, suc, Bool, true, false, List, length, Some, same_Some}
+use Rattle.sbp_world.proofs.Words.Wire.{Packet, Holder, node_of, topology_at, or_nobody, Moment, Terms, terms}
+use Rattle.sbp_world.proofs.Words.Target.{Login, is_live, Disk, state_in, is_reset, login_at, is_barred, demand_of, Access}
+use Rattle.sbp_world.proofs.Words.Laws.{present_list}
+use Rattle.sbp_world.proofs.Words.World.{holder, Stands, WorldState, AreHeldAt, HasCaught, machine_at, AreOpened}
 use Rattle.bus_transactions.proofs.Reaches.{goes_on}
-use Rattle.login_table.specs.declared.login.Login.{Login}
-use Rattle.login_table.specs.Table.{is_live}
-use Rattle.async_packet.specs.Packet.{Packet}
-use Rattle.rbc_disk.specs.Disk.{Disk}
-use Rattle.command_agent.specs.Machine.{state_in}
-use Rattle.command_agent.specs.Steps.{is_reset}
-use Rattle.sbp_bus.specs.declared.places.Holder.{Holder}
-use Rattle.sbp_bus.specs.Generations.{node_of, topology_at}
-use Rattle.sbp_bus.specs.Places.{or_nobody}
-use Rattle.sbp_journal.specs.Run.{Moment}
-use Rattle.sbp_journal.specs.Wire.{Terms, terms}
-use Rattle.sbp_laws.specs.Lists.{present_list}
-use Rattle.sbp_target.specs.Nodes.{login_at}
-use Rattle.sbp_target.specs.Serving.{is_barred}
-use Rattle.target_base.specs.Addresses.{demand_of}
-use Rattle.target_base.specs.declared.address.Access.{Access}
 use Rattle.target_base.specs.declared.address.Demand.TheVariants as demands
 use Rattle.sbp_target.proofs.Histories.Calling.{Good}
 use Rattle.sbp_target.proofs.Histories.Settled.{reaches}
-use Rattle.sbp_world.specs.Telling.{holder}
-use Rattle.sbp_world.specs.Wire.Wires.{Stands}
-use Rattle.sbp_world.specs.Worlds.{WorldState}
 use Rattle.sbp_world.proofs.Wire.Bus.{holds, node_has}
-use Rattle.sbp_world.specs.Agents.Holders.{AreHeldAt}
 use Rattle.sbp_world.proofs.Agents.Management.Still.{hist}
-use Rattle.sbp_world.specs.Sessions.Caught.{HasCaught}
-use Rattle.sbp_world.specs.Lists.Needs.{machine_at}
-use Rattle.sbp_world.specs.Lists.Opens.{AreOpened}
 use Rattle.sbp_world.proofs.Lists.StatusTurn.{Up}
 
 -- the initiator of each live login is in the target's generation or ahead

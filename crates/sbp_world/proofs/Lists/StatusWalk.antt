@@ -1,57 +1,21 @@
 -- Each turn of a run sends each status to an initiator that injected no packets as it is to be: where this is known of what the management and the answers of agents
 -- write. A delivery to the target, or a time-out of its own, sends statuses; every other line none.
-use Rattle.std.proofs.Common.{arith, ◌≡◌, ◌∙◌, refl, sym, ap, subst, ◌<◌, ◌≤◌, ◌||◌, not, ℕ, suc, nat_eq, Bool, true, false, cond, List, [], ◌∷◌, length, Option, Some, None, Result, Ok, Err}
-use Rattle.async_packet.specs.Packet.{Packet}
-use Rattle.command_agent.specs.Steps.{point_step}
-use Rattle.label_table.specs.declared.reply.Stale.{Stale}
-use Rattle.label_table.specs.Layer.{Layer, expiring_step, judging_step, of_request}
-use Rattle.orb_layout.specs.declared.ask.Ask.{Ask}
-use Rattle.orb_layout.specs.declared.pointer.OrbPointer.{OrbPointer}
-use Rattle.orb_layout.specs.Replies.{Answer}
-use Rattle.packet_store.specs.declared.sent.Sent.{Sent}
-use Rattle.packet_store.specs.Kept.{found_sent, is_flying}
-use Rattle.packet_store.specs.Stored.{deliver_step}
-use Rattle.rbc_disk.specs.Held.{Held}
-use Rattle.rbc_disk.specs.Runs.{Told}
-use Rattle.sbp_bus.specs.declared.requests.Request.{Request}
-use Rattle.sbp_bus.specs.Packets.{end_note, judged_note, no_packet}
-use Rattle.sbp_bus.specs.Requests.{find}
-use Rattle.sbp_journal.specs.declared.event.Event.{Event}
+use Rattle.sbp_world.proofs.Words.Std.{arith, ◌≡◌, ◌∙◌, refl, sym, ap, subst, ◌<◌, ◌≤◌, ◌||◌, not, ℕ, suc, nat_eq, Bool, true, false, cond, List, [], ◌∷◌, length, Option, Some, None, Result, Ok, Err}
+use Rattle.sbp_world.proofs.Words.Wire.{Packet, Stale, Layer, expiring_step, judging_step, of_request, Sent, found_sent, is_flying, deliver_step, Request, end_note, judged_note, no_packet, find, Event, Note, empty_outbox, Moment, asked, Sending, terms}
+use Rattle.sbp_world.proofs.Words.Target.{point_step, Held, Told, Purpose, manage, NodeState, TargetScene, scene, expired, expired_in, received, is_barred, demand_of}
+use Rattle.sbp_world.proofs.Words.Initiator.{Ask, OrbPointer, Answer}
+use Rattle.sbp_world.proofs.Words.Laws.{EachMoment}
+use Rattle.sbp_world.proofs.Words.World.{MayAt, MayReceive, MayTold, delivered, marked, target_received, whole_of, handed_out, MayHappen, happens, MayIf, delivered_if, expires, initiator_expires, is_in_flight, may_repeat, target_expired, target_left, timed_out, timeout_line, timeout_of, MayNext, delivered_at, delivered_next, lowest, IsLine, Scene, WorldState, begun, initiator_at, with_note, with_target, without_notes, has_list, AreRows, AreOthers, IsFor, machine_at, AreOwnOf, AreStatuses, IsToHost, SentSo}
 use Rattle.sbp_journal.specs.declared.event.Event.TheVariants as events
-use Rattle.sbp_journal.specs.declared.note.Note.{Note}
 use Rattle.sbp_journal.specs.declared.note.Note.TheVariants as notes
-use Rattle.sbp_journal.specs.Outgoings.{empty_outbox}
-use Rattle.sbp_journal.specs.Run.{Moment, asked}
-use Rattle.sbp_journal.specs.Transactions.{Sending}
-use Rattle.sbp_journal.specs.Wire.{terms}
-use Rattle.sbp_laws.specs.Turns.{EachMoment}
-use Rattle.sbp_target.specs.declared.purpose.Purpose.{Purpose}
-use Rattle.sbp_target.specs.Management.{manage}
-use Rattle.sbp_target.specs.Nodes.{NodeState, Scene as TargetScene, scene}
-use Rattle.sbp_target.specs.Receiving.{expired, expired_in, received}
-use Rattle.sbp_target.specs.Serving.{is_barred}
-use Rattle.sbp_world.specs.Delivering.{MayAt, MayReceive, MayTold, delivered, marked, target_received, whole_of}
-use Rattle.sbp_world.specs.Handing.{handed_out}
-use Rattle.sbp_world.specs.Lines.{MayHappen, happens}
-use Rattle.sbp_world.specs.Packets.{MayIf, delivered_if, expires, initiator_expires, is_in_flight, may_repeat, target_expired, target_left, timed_out, timeout_line, timeout_of}
 use Rattle.sbp_world.specs.Packets as packets
-use Rattle.sbp_world.specs.Settling.{MayNext, delivered_at, delivered_next, lowest}
 use Rattle.sbp_world.specs.Settling as settling
-use Rattle.sbp_world.specs.Wire.Lines.{IsLine}
-use Rattle.sbp_world.specs.Worlds.{Scene, WorldState, begun, initiator_at, with_note, with_target, without_notes}
 use Rattle.sbp_world.proofs.Wire.Comes.{to_zero}
 use Rattle.target_base.specs.declared.address.Access.TheVariants as accesses
 use Rattle.target_base.specs.declared.address.Demand.TheVariants as demands
-use Rattle.target_base.specs.Addresses.{demand_of}
-use Rattle.sbp_world.specs.Agents.Alike.{has_list}
 use Rattle.sbp_world.proofs.Agents.Management.Still.{hist}
-use Rattle.sbp_world.specs.Hosts.Fits.{AreRows}
-use Rattle.sbp_world.specs.Hosts.Handing.{AreOthers}
 use Rattle.sbp_world.proofs.Hosts.Hands.{hand_law}
 use Rattle.sbp_world.proofs.Hosts.StepLaws.{step_law}
-use Rattle.sbp_world.specs.Lists.Needs.{IsFor, machine_at}
-use Rattle.sbp_world.specs.Lists.OwnLogins.{AreOwnOf}
-use Rattle.sbp_world.specs.Lists.Statuses.{AreStatuses, IsToHost, SentSo}
 use Rattle.sbp_world.proofs.Lists.Deliveries.{waits_has}
 use Rattle.sbp_world.proofs.Lists.Generations.{moment_generation}
 use Rattle.sbp_world.proofs.Lists.NamedWrites.{Like, like_asked}

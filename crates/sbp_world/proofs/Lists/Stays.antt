@@ -1,30 +1,16 @@
 -- What is known of the agents as a line begins, and behind what others than the target do.
-use Rattle.std.proofs.Common.{◌∙◌, refl, sym, subst, ◌<◌, ◌||◌, not, ℕ, Bool, true, false, cond, List, ◌∷◌, length}
-use Rattle.std.proofs.Math.ListN.{length-set}
+use Rattle.sbp_world.proofs.Words.Std.{◌∙◌, refl, sym, subst, ◌<◌, ◌||◌, not, ℕ, Bool, true, false, cond, List, ◌∷◌, length, length-set}
+use Rattle.sbp_world.proofs.Words.Wire.{is_flying, deliver_step, end_note, judged_note, holder_at, Judged, Event, OutboxState, Moment, asked}
+use Rattle.sbp_world.proofs.Words.Target.{NodeState, desk_at}
+use Rattle.sbp_world.proofs.Words.Initiator.{InitiatorState}
+use Rattle.sbp_world.proofs.Words.Laws.{ran_status, runs}
+use Rattle.sbp_world.proofs.Words.World.{marked, handed_out, holder, told_all, WorldState, with_initiator, with_note, without_notes, Lasts, orbs, IsNamed, IsOpenAt, Needs, OpenLists, machine_at}
 use Rattle.agent_laws.proofs.Along.Growing.{grown}
-use Rattle.packet_store.specs.Kept.{is_flying}
 use Rattle.sbp_world.proofs.Lists.Calm.{unrun_now}
-use Rattle.packet_store.specs.Stored.{deliver_step}
-use Rattle.sbp_bus.specs.Packets.{end_note, judged_note}
-use Rattle.sbp_bus.specs.Places.{holder_at}
-use Rattle.sbp_initiator.specs.declared.state.InitiatorState.{InitiatorState}
-use Rattle.sbp_journal.specs.declared.cause.Judged.{Judged}
 use Rattle.sbp_journal.specs.declared.cause.Judged.TheVariants as judgements
-use Rattle.sbp_journal.specs.declared.event.Event.{Event}
-use Rattle.sbp_journal.specs.Outgoings.{OutboxState}
-use Rattle.sbp_journal.specs.Run.{Moment, asked}
-use Rattle.sbp_laws.specs.Terms.{ran_status, runs}
-use Rattle.sbp_target.specs.Nodes.{NodeState, desk_at}
-use Rattle.sbp_world.specs.Delivering.{marked}
-use Rattle.sbp_world.specs.Handing.{handed_out}
-use Rattle.sbp_world.specs.Telling.{holder, told_all}
-use Rattle.sbp_world.specs.Worlds.{WorldState, with_initiator, with_note, without_notes}
 use Rattle.sbp_world.proofs.Formed.{AreOwn}
 use Rattle.sbp_world.proofs.Agents.Management.Still.{hist}
-use Rattle.sbp_world.specs.Hosts.Lasting.{Lasts}
 use Rattle.sbp_world.proofs.Hosts.OrbTerms.{AreStill}
-use Rattle.sbp_world.specs.Lists.Lists.{orbs}
-use Rattle.sbp_world.specs.Lists.Needs.{IsNamed, IsOpenAt, Needs, OpenLists, machine_at}
 use Rattle.sbp_world.proofs.Lists.Adds.{IsGood, Stays, adds_none, all_stay, stays_note, stays_same, stays_then, stays_told}
 use Rattle.sbp_world.proofs.Lists.Calm.{asked_calm, calm_asked}
 use Rattle.sbp_world.proofs.Lists.Kept.{Kept, keeps}

@@ -1,29 +1,16 @@
 -- What a place says of the ORBs of its agents that have not ended, by their names: which ORB stands where an agent has one that was read, and what goes on so.
-use Rattle.std.proofs.Common.{arith, ◌≡◌, ◌∙◌, sym, ap, subst, ◌<◌, ◌≤◌, ℕ, true, List, ◌∷◌, ◌++◌, append_assoc, Some}
-use Rattle.agent_laws.specs.Along.Along.{Knows, KnowsAhead, Progress}
-use Rattle.agent_laws.specs.Along.Lists.{OrbList}
-use Rattle.agent_laws.specs.Along.Steps.{number_behind}
+use Rattle.sbp_world.proofs.Words.Std.{arith, ◌≡◌, ◌∙◌, sym, ap, subst, ◌<◌, ◌≤◌, ℕ, true, List, ◌∷◌, ◌++◌, append_assoc, Some}
+use Rattle.sbp_world.proofs.Words.Wire.{Moment, said}
+use Rattle.sbp_world.proofs.Words.Target.{Knows, KnowsAhead, Progress, OrbList, number_behind, Phase, Machine, aligned, Disk}
+use Rattle.sbp_world.proofs.Words.Initiator.{start_of, CommandOrb, OrbPointer, At}
+use Rattle.sbp_world.proofs.Words.Laws.{address_of, linked, named_orb, prepared_in, ends}
+use Rattle.sbp_world.proofs.Words.World.{WorldState, AreAlong, GoesAlong, IsCalm, IsOpenAt, OpenLists, initiator_in, is_open_at, machine_at, IsNamedBrought, IsStillBrought}
 use Rattle.bus_memory.specs.declared.window.Window.TheVariants as windows
-use Rattle.bus_memory.specs.Windows.{start as start_of}
-use Rattle.command_agent.specs.declared.phase.Phase.{Phase}
 use Rattle.command_agent.specs.declared.phase.Phase.TheVariants as phases
 use Rattle.command_agent.specs.declared.phase.ReadAhead.TheVariants as aheads
-use Rattle.command_agent.specs.Machine.{Machine, aligned}
-use Rattle.orb_layout.specs.declared.command.CommandOrb.{CommandOrb}
-use Rattle.orb_layout.specs.declared.pointer.OrbPointer.{OrbPointer}
-use Rattle.orb_layout.specs.declared.pointer.OrbPointer.TheVariants.{At}
-use Rattle.rbc_disk.specs.Disk.{Disk}
-use Rattle.sbp_journal.specs.Run.{Moment, said}
 use Rattle.sbp_journal.specs.declared.note.Note.TheVariants as notes
-use Rattle.sbp_laws.specs.CarriedBytes.{address_of}
-use Rattle.sbp_laws.specs.Lists.{linked, orb as named_orb, prepared_in}
-use Rattle.sbp_laws.specs.Terms.{ends}
-use Rattle.sbp_world.specs.Worlds.{WorldState}
 use Rattle.sbp_world.proofs.Agents.Management.Holding.{Holding}
 use Rattle.sbp_world.proofs.Agents.Management.Still.{hist}
-use Rattle.sbp_world.specs.Lists.Along.{AreAlong, GoesAlong}
-use Rattle.sbp_world.specs.Lists.Needs.{IsCalm, IsOpenAt, OpenLists, initiator_in, is_open_at, machine_at}
-use Rattle.sbp_world.specs.Lists.OrbNames.{IsNamedBrought, IsStillBrought}
 use Rattle.sbp_world.proofs.Lists.OrbSteps.{Reads, holds_read}
 use Rattle.sbp_world.proofs.Lists.Sites.{Site, named_prepared}
 use Rattle.sbp_world.proofs.Lists.KeptPhases.{kept_idle}

@@ -1,25 +1,12 @@
 -- At each place of a run in which no initiator injected packets, or few logins were given, each agent that has a list open of an initiator that injected none has ORBs that responses
 -- brought, which are the ones prepared last in their slots.
-use Rattle.std.proofs.Common.{◌≡◌, ◌∙◌, refl, sym, ap, subst, ◌<◌, ◌≤◌, ◌+◌, ℕ, zero, suc, Bool, true, false, List, ◌∷◌, ◌++◌, map, length, Option}
-use Rattle.std.specs.Prelude.{replicate, slice_index_or}
-use Rattle.rbc_disk.specs.Disk.{Disk}
-use Rattle.rbc_disk.specs.Runs.{Told}
-use Rattle.sbp_journal.specs.Run.{Moment, asked, said}
-use Rattle.sbp_target.specs.declared.desk.Desk.{Desk}
-use Rattle.sbp_target.specs.Desks.{new_desk}
-use Rattle.sbp_world.specs.Agents.Alike.{has_list}
-use Rattle.sbp_world.specs.Histories.{history_of}
-use Rattle.sbp_world.specs.Making.{new_world, ready_logins}
-use Rattle.sbp_world.specs.Runs.{Run, after, beginning}
-use Rattle.sbp_world.specs.Settling.{MayAll, after_all}
-use Rattle.sbp_world.specs.Worlds.{Scene, WorldState, begun}
+use Rattle.sbp_world.proofs.Words.Std.{◌≡◌, ◌∙◌, refl, sym, ap, subst, ◌<◌, ◌≤◌, ◌+◌, ℕ, zero, suc, Bool, true, false, List, ◌∷◌, ◌++◌, map, length, Option, slice_index_or}
+use Rattle.sbp_world.proofs.Words.Wire.{Moment, asked, said}
+use Rattle.sbp_world.proofs.Words.Target.{Disk, Told, Desk, new_desk}
+use Rattle.sbp_world.proofs.Words.World.{has_list, history_of, new_world, ready_logins, Run, after, beginning, MayAll, after_all, Scene, WorldState, begun, IsRun, more_deliveries, OpenListsLaw, IsCalm, OpenBefore, OpenBetween, is_open_at, OpensLaw, IsTameOrFew}
+use Rattle.std.specs.Prelude.{replicate}
 use Rattle.sbp_world.proofs.Agents.Management.Still.{hist}
-use Rattle.sbp_world.specs.Hosts.Runs.{IsRun, more_deliveries}
 use Rattle.sbp_world.proofs.Hosts.Runs.{count_after, count_between, run_law}
-use Rattle.sbp_world.specs.Lists.Closes.{OpenListsLaw}
-use Rattle.sbp_world.specs.Lists.Needs.{IsCalm, OpenBefore, OpenBetween, is_open_at}
-use Rattle.sbp_world.specs.Lists.Opens.{OpensLaw}
-use Rattle.sbp_world.specs.Lists.FewLogins.{IsTameOrFew}
 use Rattle.sbp_world.proofs.Lists.Courses.{EveryPlace, Keeps, at_between, at_lines, more_than_one}
 use Rattle.sbp_world.proofs.Lists.LedRuns.{led_as_got}
 use Rattle.sbp_world.proofs.Lists.LinedAppends.{lined_appends, lined_between}

@@ -1,53 +1,20 @@
 -- A turn of a world in which no initiator injected packets, or few logins were given, leaves each agent with the ORBs that it has read of an initiator that injected none, which are the
 -- ones prepared last in their slots still: an initiator prepares ORBs in the line of its action alone, and this leaves the target as it is.
-use Rattle.std.proofs.Common.{arith, ◌≡◌, ◌∙◌, refl, sym, ap, subst, ◌<◌, ◌≤◌, ℕ, suc, nat_eq, nat_lt, Bool, true, false, cond, List, [], ◌∷◌, ◌++◌, map, length, Option, Some, None}
-use Rattle.std.proofs.lemmas.Bool.Decides.{nat_tests}
-use Rattle.std.proofs.lemmas.Option.{same_Some}
-use Rattle.agent_laws.specs.Along.Steps.{number_behind}
-use Rattle.command_agent.specs.declared.phase.Phase.{Phase}
+use Rattle.sbp_world.proofs.Words.Std.{arith, ◌≡◌, ◌∙◌, refl, sym, ap, subst, ◌<◌, ◌≤◌, ℕ, suc, nat_eq, nat_lt, Bool, true, false, cond, List, [], ◌∷◌, ◌++◌, map, length, Option, Some, None, nat_tests, same_Some}
+use Rattle.sbp_world.proofs.Words.Wire.{holder_at, Holder, Moment, asked, said, Sending, terms, Action, Event, Note, end_note}
+use Rattle.sbp_world.proofs.Words.Target.{number_behind, Phase, ReadAhead, Machine, aligned, Disk, Told, NodeState, desk_at}
+use Rattle.sbp_world.proofs.Words.Initiator.{CommandOrb}
+use Rattle.sbp_world.proofs.Words.Laws.{injectors, cmd_of, lowest_vacant, named_orb, prepared_in, slots, OrderLaw, receiver_in, Target, agent_at, over, target_at, ends, EachMoment, event_of}
+use Rattle.sbp_world.proofs.Words.World.{MayHappen, acted, happens, holder, IsLine, Scene, WorldState, begun, initiator_at, without_notes, Alike, has_list, AreAskedAt, serial_of, AreAlong, IsCalm, OpenLists, initiator_in, is_open_at, machine_at, AreLed, IsJustBrought, IsStillBrought, LedAsGot, AskedAsGot, IsBrought, IsTameOrFew, more_deliveries, MayNext, delivered_next, settled_from}
 use Rattle.command_agent.specs.declared.phase.Phase.TheVariants as phases
-use Rattle.command_agent.specs.declared.phase.ReadAhead.{ReadAhead}
 use Rattle.command_agent.specs.declared.phase.ReadAhead.TheVariants as aheads
-use Rattle.command_agent.specs.Machine.{Machine, aligned}
-use Rattle.orb_layout.specs.declared.command.CommandOrb.{CommandOrb}
-use Rattle.rbc_disk.specs.Disk.{Disk}
-use Rattle.rbc_disk.specs.Runs.{Told}
-use Rattle.sbp_bus.specs.Places.{holder_at}
-use Rattle.sbp_bus.specs.declared.places.Holder.{Holder}
-use Rattle.sbp_journal.specs.Run.{Moment, asked, said}
-use Rattle.sbp_journal.specs.Transactions.{Sending}
-use Rattle.sbp_journal.specs.Wire.{terms}
-use Rattle.sbp_journal.specs.declared.event.Action.{Action}
-use Rattle.sbp_journal.specs.declared.event.Event.{Event}
 use Rattle.sbp_journal.specs.declared.event.Event.TheVariants as events
-use Rattle.sbp_journal.specs.declared.note.Note.{Note}
 use Rattle.sbp_journal.specs.declared.note.Note.TheVariants as notes
-use Rattle.sbp_laws.specs.Lawful.{injectors}
-use Rattle.sbp_laws.specs.Lists.{cmd_of, lowest_vacant, orb as named_orb, prepared_in, slots}
-use Rattle.sbp_laws.specs.OrderLaw.{OrderLaw}
-use Rattle.sbp_laws.specs.Packets.{receiver_in}
-use Rattle.sbp_laws.specs.Targets.{Target, agent_at, over, target_at}
-use Rattle.sbp_laws.specs.Terms.{ends}
-use Rattle.sbp_laws.specs.Turns.{EachMoment, event_of}
-use Rattle.sbp_target.specs.Nodes.{NodeState, desk_at}
-use Rattle.sbp_world.specs.Lines.{MayHappen, acted, happens}
-use Rattle.sbp_world.specs.Telling.{holder}
-use Rattle.sbp_world.specs.Wire.Lines.{IsLine}
-use Rattle.sbp_world.specs.Worlds.{Scene, WorldState, begun, initiator_at, without_notes}
-use Rattle.sbp_world.specs.Agents.Alike.{Alike, has_list}
-use Rattle.sbp_world.specs.Agents.AskedRuns.{AreAskedAt, serial_of}
 use Rattle.sbp_world.proofs.Lists.AgentFolds.{is_for}
 use Rattle.sbp_world.proofs.Agents.Asides.{over_none}
 use Rattle.sbp_world.proofs.Agents.Management.Holding.{Holding}
 use Rattle.sbp_world.proofs.Agents.Management.Still.{hist}
 use Rattle.sbp_world.proofs.Hosts.StepLaws.{step_law}
-use Rattle.sbp_world.specs.Lists.Along.{AreAlong}
-use Rattle.sbp_world.specs.Lists.Needs.{IsCalm, OpenLists, initiator_in, is_open_at, machine_at}
-use Rattle.sbp_world.specs.Lists.OrbNames.{AreLed, IsJustBrought, IsStillBrought, LedAsGot}
-use Rattle.sbp_world.specs.Lists.OrbReads.{AskedAsGot, IsBrought}
-use Rattle.sbp_world.specs.Lists.FewLogins.{IsTameOrFew}
-use Rattle.sbp_world.specs.Hosts.Runs.{more_deliveries}
-use Rattle.sbp_world.specs.Settling.{MayNext, delivered_next, settled_from}
 use Rattle.sbp_world.proofs.Hosts.Carries.{IsNoAct}
 use Rattle.sbp_world.proofs.Lists.Calm.{calm_before as calm_by}
 use Rattle.sbp_world.proofs.Lists.Adds.{Stays}
@@ -55,7 +22,6 @@ use Rattle.sbp_world.proofs.Lists.Courses.{Goes, by_delivery, by_end, by_line, b
 use Rattle.sbp_world.proofs.Lists.Judging.{goes_next, grown as grown_by}
 use Rattle.sbp_world.proofs.Lists.LiveRuns.{goes_size, goes_tame_or_few}
 use Rattle.sbp_world.proofs.Lists.Turned.{IsOne}
-use Rattle.sbp_bus.specs.Packets.{end_note}
 use Rattle.sbp_world.proofs.Lists.LedRuns.{got_just}
 use Rattle.sbp_world.proofs.Lists.LinedAppends.{AllLined, LinedAt}
 use Rattle.sbp_world.proofs.Lists.Lines.{acts}

@@ -1,23 +1,15 @@
 -- A response of a login is got, and stands in the buffer of its place; and by the notes behind that it stays there.
-use Rattle.std.proofs.Common.{arith, ◌≡◌, ◌∙◌, ◌⊎◌, inl, inr, refl, sym, ap, subst, ℕ, zero, suc, ◌+◌, ◌-◌, ◌<◌, ◌≤◌, ◌&&◌, nat_eq, nat_le, nat_lt, Bool, true, false, cond, List, [], ◌∷◌, length, slice_index_or, slice_set, drop, Option, Some, None}
-use Rattle.std.proofs.lemmas.Bool.Decides.{nat_tests}
+use Rattle.sbp_world.proofs.Words.Std.{arith, ◌≡◌, ◌∙◌, ◌⊎◌, inl, inr, refl, sym, ap, subst, ℕ, zero, suc, ◌+◌, ◌-◌, ◌<◌, ◌≤◌, ◌&&◌, nat_eq, nat_le, nat_lt, Bool, true, false, cond, List, [], ◌∷◌, length, drop, Option, Some, None, nat_tests}
+use Rattle.sbp_world.proofs.Words.Wire.{Access, Moment, said, Sending, Terms, terms, Cause, Note}
+use Rattle.sbp_world.proofs.Words.Initiator.{patch, start_of, window_at}
+use Rattle.sbp_world.proofs.Words.Laws.{Host, Underway, host_at, known_host, ready_host, stored, stored_in, present_list, access_at, access_in, access_in_bytes, answered_as, answered_at, answered_in, receiver_in, spelled_by}
+use Rattle.sbp_world.proofs.Words.World.{write_access, Begins}
+use Rattle.std.proofs.Common.{slice_index_or, slice_set}
 use Rattle.bus_memory.specs.declared.window.Window.TheVariants as windows
-use Rattle.bus_memory.specs.Memory.{patch}
-use Rattle.bus_memory.specs.Windows.{start as start_of, window_at}
-use Rattle.sbp_journal.specs.Addresses.{Access}
-use Rattle.sbp_journal.specs.Run.{Moment, said}
-use Rattle.sbp_journal.specs.Transactions.{Sending}
-use Rattle.sbp_journal.specs.Wire.{Terms, terms}
-use Rattle.sbp_journal.specs.declared.cause.Cause.{Cause}
 use Rattle.sbp_journal.specs.declared.cause.Cause.TheVariants as causes
-use Rattle.sbp_journal.specs.declared.note.Note.{Note}
 use Rattle.sbp_journal.specs.declared.note.Note.TheVariants as notes
-use Rattle.sbp_laws.specs.Hosts.{Host, Underway, got_by, host_at, is_serial, known_host, ready_host, stored, stored_in}
-use Rattle.sbp_laws.specs.Lists.{present_list}
-use Rattle.sbp_laws.specs.Packets.{access_at, access_in, access_in_bytes, answered_as, answered_at, answered_in, receiver_in, spelled_by}
-use Rattle.sbp_world.specs.Agents.AskedRuns.{write_access}
+use Rattle.sbp_laws.specs.Hosts.{got_by, is_serial}
 use Rattle.sbp_world.proofs.Hosts.Cores.{wire_is}
-use Rattle.sbp_world.specs.Lists.Stored.{Begins}
 use Rattle.sbp_world.proofs.Lists.BufferGets.{IsRead, read_of}
 use Rattle.sbp_world.proofs.Lists.BufferStores.{IsStoring, Stores, got_stores, note_same, nothing, stores}
 use Rattle.sbp_world.proofs.Lists.ManageGot.{IsWriting, writing_in}

@@ -1,20 +1,12 @@
 -- The response of a login that its initiator got stands in the buffer of the login's place, at each place of a run.
-use Rattle.std.proofs.Common.{◌∙◌, sym, subst, ℕ, ◌<◌, List, [], length}
+use Rattle.sbp_world.proofs.Words.Std.{◌∙◌, sym, subst, ℕ, ◌<◌, List, [], length}
+use Rattle.sbp_world.proofs.Words.Wire.{Moment}
+use Rattle.sbp_world.proofs.Words.Target.{Disk}
+use Rattle.sbp_world.proofs.Words.World.{more_deliveries, AllOfTarget, moments_behind, ready_logins, Run, after, beginning, after_all, WorldState, begun, initiator_at, HoldsLogin, AreAsked}
 use Rattle.sbp_world.proofs.Hosts.Quadlets.{source_law}
 use Rattle.sbp_world.proofs.Hosts.Runs.{count_after, count_between}
-use Rattle.sbp_world.specs.Hosts.Runs.{more_deliveries}
-use Rattle.sbp_world.specs.Hosts.Sources.{AllOfTarget}
-use Rattle.rbc_disk.specs.Disk.{Disk}
-use Rattle.sbp_journal.specs.Run.{Moment}
-use Rattle.sbp_world.specs.Histories.{moments_behind}
-use Rattle.sbp_world.specs.Making.{ready_logins}
-use Rattle.sbp_world.specs.Runs.{Run, after, beginning}
-use Rattle.sbp_world.specs.Settling.{after_all}
-use Rattle.sbp_world.specs.Worlds.{WorldState, begun, initiator_at}
 use Rattle.sbp_world.proofs.Agents.Management.Still.{hist}
-use Rattle.sbp_world.specs.Sessions.Holding.{HoldsLogin}
 use Rattle.sbp_world.proofs.Sessions.HoldingRuns.{holding_law}
-use Rattle.sbp_world.specs.Lists.Contents.{AreAsked}
 use Rattle.sbp_world.proofs.Lists.ContentPlaces.{contents_everywhere}
 use Rattle.sbp_world.proofs.Lists.Courses.{EveryPlace, Keeps, at_between, at_lines}
 use Rattle.sbp_world.proofs.Lists.Judging.{goes_next, grown}

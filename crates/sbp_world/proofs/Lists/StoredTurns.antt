@@ -1,51 +1,18 @@
 -- As the answer to the response of a login comes, that stands in the buffer of its initiator: where the response that was served stands there.
-use Rattle.std.proofs.Common.{arith, ◌≡◌, ◌∙◌, refl, sym, ap, ℕ, suc, ◌+◌, ◌-◌, ◌<◌, ◌≤◌, drop, Bool, true, false, cond, List, [], ◌++◌, length, Option, Some, None}
-use Rattle.std.specs.Prelude.{slice_index, slice_index_or, unwrap_or}
-use Rattle.std.proofs.lemmas.List.{drop-append-le, get_or_append_left, length-drop}
-use Rattle.async_packet.specs.Labels.{LabelParts}
-use Rattle.async_packet.specs.Packet.{Packet}
+use Rattle.sbp_world.proofs.Words.Std.{arith, ◌≡◌, ◌∙◌, refl, sym, ap, ℕ, suc, ◌+◌, ◌-◌, ◌<◌, ◌≤◌, drop, Bool, true, false, cond, List, [], ◌++◌, length, Option, Some, None, slice_index, slice_index_or, unwrap_or, drop-append-le, get_or_append_left, length-drop, big_number, quad}
+use Rattle.sbp_world.proofs.Words.Wire.{LabelParts, Packet, judging_step, of_response, is_write, Sent, found_sent, Moment, Sending, terms}
+use Rattle.sbp_world.proofs.Words.Target.{Managed, Disk, answer_in}
+use Rattle.sbp_world.proofs.Words.Initiator.{start_of, login_response, write_failure, Running, InitiatorState, response_of, place_in, place_of}
+use Rattle.sbp_world.proofs.Words.Laws.{Underway, host_at, is_management, access_at, access_in, access_in_bytes, id_for, packet_in, receiver_in, target_at, EachMoment}
+use Rattle.sbp_world.proofs.Words.World.{Core, Work, placed_in, work_in, work_of, WorldState, initiator_at, write_access, orb_in_place, IsLastRead, HasGivenUp, IsHandling, IsCalm, BasedAt, IsInAPlace, IsInBuffer, IsResponding, IsTaken}
 use Rattle.bus_memory.specs.declared.window.Window.TheVariants as windows
-use Rattle.bus_memory.specs.Windows.{start as start_of}
-use Rattle.byteorder.specs.Endian.{big_number}
-use Rattle.sbp_world.specs.Hosts.Core.{Core, Work, placed as placed_in, work_in, work_of}
-use Rattle.label_table.specs.Layer.{judging_step, of_response}
-use Rattle.label_table.specs.Requests.{is_write}
-use Rattle.mgmt_agent.specs.declared.operation.Operation.{Operation as Managed}
 use Rattle.mgmt_agent.specs.declared.operation.Phase.{Phase}
 use Rattle.mgmt_agent.specs.declared.operation.Phase.TheVariants as phases
 use Rattle.mgmt_agent.specs.Machine.{Machine}
-use Rattle.orb_layout.specs.LoginResponses.{login_response}
-use Rattle.orb_layout.specs.Replies.{write_failure}
-use Rattle.packet_store.specs.declared.sent.Sent.{Sent}
-use Rattle.packet_store.specs.Kept.{found_sent}
-use Rattle.rbc_disk.specs.Disk.{Disk}
-use Rattle.sbp_base.specs.Quadlets.{quad}
-use Rattle.sbp_initiator.specs.declared.purpose.Running.{Running}
-use Rattle.sbp_initiator.specs.declared.state.InitiatorState.{InitiatorState}
-use Rattle.sbp_initiator.specs.Effects.{response_of}
-use Rattle.sbp_initiator.specs.States.{place_in, place_of}
 use Rattle.sbp_journal.specs.declared.operation.Operation.TheVariants as operations
-use Rattle.sbp_journal.specs.Run.{Moment}
-use Rattle.sbp_journal.specs.Transactions.{Sending}
-use Rattle.sbp_journal.specs.Wire.{terms}
-use Rattle.sbp_laws.specs.Hosts.{Underway, host_at, is_management}
-use Rattle.sbp_laws.specs.Packets.{access_at, access_in, access_in_bytes, id_for, packet_in, receiver_in}
-use Rattle.sbp_laws.specs.Targets.{target_at}
-use Rattle.sbp_laws.specs.Turns.{EachMoment}
 use Rattle.sbp_target.specs.declared.purpose.Purpose.TheVariants as purposes
-use Rattle.sbp_target.specs.Receiving.{answer_in}
-use Rattle.sbp_world.specs.Worlds.{WorldState, initiator_at}
-use Rattle.sbp_world.specs.Agents.AskedRuns.{write_access}
 use Rattle.sbp_world.proofs.Agents.Management.Holding.{Holding}
 use Rattle.sbp_world.proofs.Agents.Management.Still.{hist}
-use Rattle.sbp_world.specs.Lists.KeptOrbs.{orb_in_place}
-use Rattle.sbp_world.specs.Lists.LastReads.{IsLastRead}
-use Rattle.sbp_world.specs.Lists.Live.{HasGivenUp}
-use Rattle.sbp_world.specs.Lists.Managing.{IsHandling}
-use Rattle.sbp_world.specs.Lists.Needs.{IsCalm}
-use Rattle.sbp_world.specs.Lists.Placings.{BasedAt, IsInAPlace}
-use Rattle.sbp_world.specs.Lists.Stored.{IsInBuffer, IsResponding}
-use Rattle.sbp_world.specs.Lists.Tellings.{IsTaken}
 use Rattle.sbp_world.proofs.Lists.Judging.{counts_at}
 use Rattle.sbp_world.proofs.Lists.KeptTurns.{id_is, operation_is, own_is, zero_is}
 use Rattle.sbp_world.proofs.Lists.LiveHandled.{handling}

@@ -1,29 +1,13 @@
 -- For which list a place's pointer was taken, by the terms: only a packet that the target got changes it, and of these only a write of ORB_POINTER that is taken.
-use Rattle.std.proofs.Common.{◌≡◌, ◌∙◌, refl, sym, ap, subst, ℕ, ◌-◌, ◌≤◌, ◌==◌, ◌&&◌, not, is_some, Bool, true, false, cond, List, [], ◌∷◌, ◌++◌, map, Option, Some, None, Result, Ok, Err}
-use Rattle.async_packet.specs.Packet.{Packet, lock, lock_response, read_block, read_block_response, read_quadlet, read_quadlet_response, write_block, write_quadlet, write_response}
-use Rattle.command_agent.specs.Machine.{Machine}
-use Rattle.command_agent.specs.Steps.{point_step}
-use Rattle.command_agent.specs.declared.step.PointRefusal.{PointRefusal}
-use Rattle.label_table.specs.Requests.{reply_kind}
-use Rattle.orb_layout.specs.Pointers.{offset_at, pointer_at}
-use Rattle.orb_layout.specs.Replies.{Answer}
-use Rattle.orb_layout.specs.declared.ask.Ask.{Ask}
-use Rattle.rbc_disk.specs.Disk.{Disk}
-use Rattle.sbp_journal.specs.Addresses.{Access, Register, Start, access_of, agent_reset, agent_state, begins_in_rom, doorbell, is_start, lies_in_rom, management_agent, no_start, orb_pointer, register, rom_base, rom_start, start_at, start_serves, unsolicited_enable}
-use Rattle.sbp_journal.specs.Run.{Moment, said}
-use Rattle.sbp_journal.specs.Wire.{Terms, terms}
-use Rattle.sbp_journal.specs.declared.note.Note.{Note}
+use Rattle.sbp_world.proofs.Words.Std.{◌≡◌, ◌∙◌, refl, sym, ap, subst, ℕ, ◌-◌, ◌≤◌, ◌==◌, ◌&&◌, not, is_some, Bool, true, false, cond, List, [], ◌∷◌, ◌++◌, map, Option, Some, None, Result, Ok, Err}
+use Rattle.sbp_world.proofs.Words.Wire.{Packet, lock, lock_response, read_block, read_block_response, read_quadlet, read_quadlet_response, write_block, write_quadlet, write_response, reply_kind, Access, Register, Start, access_of, agent_reset, agent_state, begins_in_rom, doorbell, is_start, lies_in_rom, management_agent, no_start, orb_pointer, register, rom_base, rom_start, start_at, start_serves, unsolicited_enable, Moment, said, Terms, terms, Note}
+use Rattle.sbp_world.proofs.Words.Target.{Machine, point_step, PointRefusal, Disk, demand_of, or_nowhere, Demand, asked_at, asked_of}
+use Rattle.sbp_world.proofs.Words.Initiator.{offset_at, pointer_at, Answer, Ask}
+use Rattle.sbp_world.proofs.Words.Laws.{Event, got_in, list_taken, listed_at, listed_by, nothing, reply_to, write_in, write_of, writes, list_in, named, access_at, answer_in, answered_at, packet_at, receiver_in, Purpose, Target, agent_at, for_agent, for_manager, for_nobody, initiator_at, is_serial, over, purpose_of, target_at}
 use Rattle.sbp_journal.specs.declared.note.Note.TheVariants as notes
-use Rattle.sbp_laws.specs.Agents.{Event, got_in, list_taken, listed_at, listed_by, nothing, reply_to, write_in, write_of, writes}
-use Rattle.sbp_laws.specs.Lists.{list_in, named}
-use Rattle.sbp_laws.specs.Packets.{access_at, answer_in, answered_at, packet_at, receiver_in}
-use Rattle.sbp_laws.specs.Targets.{Purpose, Target, agent_at, for_agent, for_manager, for_nobody, initiator_at, is_serial, over, purpose_of, target_at}
-use Rattle.target_base.specs.Addresses.{demand_of, or_nowhere}
 use Rattle.target_base.specs.declared.address.Access as base
 use Rattle.target_base.specs.declared.address.Access.TheVariants as accesses
-use Rattle.target_base.specs.declared.address.Demand.{Demand}
 use Rattle.target_base.specs.declared.address.Demand.TheVariants as demands
-use Rattle.sbp_target.specs.Histories.Judgements.{asked_at, asked_of}
 use Rattle.sbp_target.proofs.Histories.Asked.{Rows, demand_is, serves_is}
 use Rattle.sbp_world.proofs.Lists.SendsLast.{AllEffects, AllSends, Hands, IsEffect, IsSend, IsUnheard, Led, opens, passes}
 use Rattle.sbp_world.proofs.Agents.Demands.{none_some}

@@ -1,20 +1,11 @@
 -- A walk over runs under a condition that was so before wherever it is so, such as that no initiator injected packets: what is known of a place where it is so, is known of
 -- the places before.
-use Rattle.std.proofs.Common.{◌≡◌, sym, subst, ◌<◌, ◌≤◌, ℕ, Bool, List, [], ◌∷◌, ◌++◌, map, length, Option}
-use Rattle.rbc_disk.specs.Disk.{Disk}
-use Rattle.rbc_disk.specs.Runs.{Told}
-use Rattle.sbp_journal.specs.declared.event.Event.{Event}
-use Rattle.sbp_journal.specs.Run.{Moment, asked, said}
-use Rattle.sbp_laws.specs.Lawful.{injectors}
-use Rattle.sbp_world.specs.Histories.{history_of, moments_behind}
-use Rattle.sbp_world.specs.Runs.{Run, after, beginning}
-use Rattle.sbp_world.specs.Settling.{MayAll, after_all}
-use Rattle.sbp_world.specs.Worlds.{Scene, WorldState, begun}
-use Rattle.sbp_world.specs.Agents.Management.Terms.{DeliversMore}
+use Rattle.sbp_world.proofs.Words.Std.{◌≡◌, sym, subst, ◌<◌, ◌≤◌, ℕ, Bool, List, [], ◌∷◌, ◌++◌, map, length, Option}
+use Rattle.sbp_world.proofs.Words.Wire.{Event, Moment, asked, said}
+use Rattle.sbp_world.proofs.Words.Target.{Disk, Told}
+use Rattle.sbp_world.proofs.Words.Laws.{injectors}
+use Rattle.sbp_world.proofs.Words.World.{history_of, moments_behind, Run, after, beginning, MayAll, after_all, Scene, WorldState, begun, DeliversMore, IsRun, Always, Under, UnderFrom, OpenBefore, OpenBetween}
 use Rattle.sbp_world.proofs.Agents.Management.Still.{hist}
-use Rattle.sbp_world.specs.Hosts.Runs.{IsRun}
-use Rattle.sbp_world.specs.Lists.Closes.{Always, Under, UnderFrom}
-use Rattle.sbp_world.specs.Lists.Needs.{OpenBefore, OpenBetween}
 use Rattle.sbp_world.proofs.Lists.Gots.{Next, next, next_line, same_still, turn_next}
 use Rattle.sbp_world.proofs.Lists.Walks.{Step, Turn, Walks, walked_from, walked_from_between}
 use Rattle.sbp_world.proofs.Lists.Courses.{EveryPlace}

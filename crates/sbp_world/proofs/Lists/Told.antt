@@ -1,36 +1,13 @@
 -- What is told of a step of the agent of a place: notes of the ORB behind those that have ended, which the order law has there.
-use Rattle.std.proofs.Common.{◌≡◌, ◌∙◌, refl, sym, ap, subst, ◌<◌, ◌≤◌, ◌||◌, ℕ, suc, is_some, Bool, true, false, List, ◌∷◌, ◌++◌, map, Option, Some, None, IfSome, arith}
-use Rattle.orb_layout.specs.declared.ask.Ask.{Ask}
-use Rattle.orb_layout.specs.declared.ask.FailCause.{FailCause}
-use Rattle.orb_layout.specs.declared.status.StatusKind.{StatusKind}
+use Rattle.sbp_world.proofs.Words.Std.{◌≡◌, ◌∙◌, refl, sym, ap, subst, ◌<◌, ◌≤◌, ◌||◌, ℕ, suc, is_some, Bool, true, false, List, ◌∷◌, ◌++◌, map, Option, Some, None, IfSome, arith}
+use Rattle.sbp_world.proofs.Words.Wire.{Holder, check_of, dead_note, ended_note, list_in, orb_in, ran_note, Moment, said, Note}
+use Rattle.sbp_world.proofs.Words.Target.{Sense, Outcome, PlainDisk, AgentStep, Machine, has_present, src_of, Along, Progress, IsEnd, IsRun, Keeps, end_by, progress_by, run_by, orb_of}
+use Rattle.sbp_world.proofs.Words.Initiator.{Ask, FailCause, StatusKind, start}
+use Rattle.sbp_world.proofs.Words.Laws.{linked, slot_at, is_cut, appends, ends, lists, ran_status, runs}
+use Rattle.sbp_world.proofs.Words.World.{holder, ticket_at, WorldState, has_list, WasHad, UnrunLaw, orbs, GoesAlong}
 use Rattle.bus_memory.specs.declared.window.Window.TheVariants as windows
-use Rattle.bus_memory.specs.Windows.{start}
-use Rattle.rbc_command.specs.declared.sense.Sense.{Sense}
-use Rattle.rbc_disk.specs.declared.command.Outcome.{Outcome}
-use Rattle.rbc_disk.specs.Units.{PlainDisk}
-use Rattle.command_agent.specs.declared.step.AgentStep.{AgentStep}
-use Rattle.command_agent.specs.Machine.{Machine, has_present}
-use Rattle.command_agent.specs.Steps.{src_of}
-use Rattle.agent_laws.specs.Along.Along.{Along, Progress}
-use Rattle.agent_laws.specs.Along.Steps.{IsEnd, IsRun, Keeps, end_by, progress_by, run_by}
-use Rattle.sbp_bus.specs.declared.places.Holder.{Holder}
-use Rattle.sbp_bus.specs.Words.{check_of}
-use Rattle.sbp_bus.specs.Telling.{dead_note, ended_note, list_in, orb_in, ran_note}
-use Rattle.sbp_journal.specs.Run.{Moment, said}
-use Rattle.sbp_journal.specs.declared.note.Note.{Note}
 use Rattle.sbp_journal.specs.declared.note.Note.TheVariants as notes
-use Rattle.sbp_laws.specs.Lists.{linked, slot_at}
-use Rattle.sbp_laws.specs.OrderLaw.{is_cut}
-use Rattle.sbp_laws.specs.Terms.{appends, ends, lists, ran_status, runs}
-use Rattle.sbp_target.specs.Telling.{orb_of}
-use Rattle.sbp_world.specs.Telling.{holder, ticket_at}
-use Rattle.sbp_world.specs.Worlds.{WorldState}
-use Rattle.sbp_world.specs.Agents.Alike.{has_list}
-use Rattle.sbp_world.specs.Lists.CutLists.{WasHad}
-use Rattle.sbp_world.specs.Lists.Running.{UnrunLaw}
-use Rattle.sbp_world.specs.Lists.Lists.{orbs}
 use Rattle.sbp_world.proofs.Lists.Running.{ends_with, later_unrun, none_ran, runs_other, same_run, status_here, status_other}
-use Rattle.sbp_world.specs.Lists.Along.{GoesAlong}
 use Rattle.sbp_world.proofs.Lists.Later.{had_next}
 use Rattle.sbp_world.proofs.Lists.Passing.{PassLaw, EndsNext, GoesOn, HasRun}
 use Rattle.sbp_world.proofs.Lists.Named.{IsTurn, as_read, ended_more, ended_other, order_ended, order_ran}

@@ -1,20 +1,11 @@
 -- What a turn of a run is to the target: it leaves the target, and no packet of it is sent; a unit gets a key; or it is one call of the target, behind the first note of the turn, and what the call hands out.
-use Rattle.std.proofs.Common.{◌≡◌, ◌⊎◌, ℕ, Bool, false, true, List, ◌∷◌, Some}
-use Rattle.label_table.specs.Layer.{Layer}
-use Rattle.sbp_journal.specs.Run.{Moment, asked, said}
-use Rattle.sbp_journal.specs.Transactions.{Sending}
-use Rattle.sbp_journal.specs.Wire.{terms}
-use Rattle.sbp_journal.specs.declared.event.Event.{Event}
-use Rattle.sbp_journal.specs.declared.note.Note.{Note}
+use Rattle.sbp_world.proofs.Words.Std.{◌≡◌, ◌⊎◌, ℕ, Bool, false, true, List, ◌∷◌, Some}
+use Rattle.sbp_world.proofs.Words.Wire.{Layer, Moment, asked, said, Sending, terms, Event, Note}
+use Rattle.sbp_world.proofs.Words.Target.{Call, alone, sees, with_key, Purpose}
+use Rattle.sbp_world.proofs.Words.World.{handed_out, WorldState, AreOthers}
 use Rattle.sbp_journal.specs.declared.note.Note.TheVariants as notes
-use Rattle.sbp_target.specs.Calls.{Call, alone, sees}
-use Rattle.sbp_target.specs.Receiving.{with_key}
-use Rattle.sbp_target.specs.declared.purpose.Purpose.{Purpose}
 use Rattle.sbp_target.proofs.Histories.Calling.{Good}
-use Rattle.sbp_world.specs.Handing.{handed_out}
-use Rattle.sbp_world.specs.Worlds.{WorldState}
 use Rattle.sbp_world.proofs.Agents.Management.Still.{hist}
-use Rattle.sbp_world.specs.Hosts.Handing.{AreOthers}
 use Rattle.sbp_world.proofs.Lists.Adds.{Stays}
 use Rattle.sbp_world.proofs.Lists.BusyDeliveries.{Called}
 use Rattle.sbp_world.proofs.Lists.Full.{IsFull, full_closed}

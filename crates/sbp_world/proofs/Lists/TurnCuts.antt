@@ -1,25 +1,13 @@
 -- In a turn in which an agent of the target that has a list is put to RESET its list is cut, and no ORB ends.
-use Rattle.std.proofs.Common.{◌≡◌, ◌∙◌, refl, sym, ap, subst, inl, inr, ◌⊎◌, ◌<◌, ℕ, Bool, true, false, List, [], ◌∷◌, Some}
-use Rattle.command_agent.specs.Machine.{Machine, state_in}
-use Rattle.command_agent.specs.Steps.{is_reset}
-use Rattle.command_agent.specs.declared.phase.Phase.{Phase}
+use Rattle.sbp_world.proofs.Words.Std.{◌≡◌, ◌∙◌, refl, sym, ap, subst, inl, inr, ◌⊎◌, ◌<◌, ℕ, Bool, true, false, List, [], ◌∷◌, Some}
+use Rattle.sbp_world.proofs.Words.Wire.{holder_at, OutboxState, Moment, asked, Event, Side}
+use Rattle.sbp_world.proofs.Words.Target.{Machine, state_in, is_reset, Phase, Disk, alone, NodeState, desk_at}
+use Rattle.sbp_world.proofs.Words.Laws.{is_cut, ends}
+use Rattle.sbp_world.proofs.Words.World.{holder, told, told_all, Scene, WorldState, initiator_in, machine_at}
 use Rattle.command_agent.specs.declared.phase.Phase.TheVariants as phases
-use Rattle.rbc_disk.specs.Disk.{Disk}
-use Rattle.sbp_bus.specs.Places.{holder_at}
-use Rattle.sbp_journal.specs.Outgoings.{OutboxState}
-use Rattle.sbp_journal.specs.Run.{Moment, asked}
-use Rattle.sbp_journal.specs.declared.event.Event.{Event}
-use Rattle.sbp_journal.specs.declared.side.Side.{Side}
 use Rattle.sbp_journal.specs.declared.side.Side.TheVariants as sides
-use Rattle.sbp_laws.specs.OrderLaw.{is_cut}
-use Rattle.sbp_laws.specs.Terms.{ends}
-use Rattle.sbp_target.specs.Calls.{alone}
-use Rattle.sbp_target.specs.Nodes.{NodeState, desk_at}
-use Rattle.sbp_world.specs.Telling.{holder, told, told_all}
-use Rattle.sbp_world.specs.Worlds.{Scene, WorldState}
 use Rattle.sbp_world.proofs.Wire.Nodes.{handed_alike}
 use Rattle.sbp_world.proofs.Agents.Management.Still.{hist}
-use Rattle.sbp_world.specs.Lists.Needs.{initiator_in, machine_at}
 use Rattle.sbp_world.proofs.Lists.Adds.{all_stay}
 use Rattle.sbp_world.proofs.Lists.BusyCuts.{AreBeside}
 use Rattle.sbp_world.proofs.Lists.Full.{IsFull, full_closed}

@@ -1,30 +1,17 @@
 -- What is said of the ORBs of agents stays so over a turn, where it is so of what the packet brings that the target gets in it.
-use Rattle.std.proofs.Common.{◌≡◌, refl, sym, ap, subst, ℕ, true, false, cond, List, [], ◌∷◌, ◌++◌, map, Option, Some, None}
-use Rattle.sbp_world.specs.Agents.AskedRuns.{AreAskedAt}
+use Rattle.sbp_world.proofs.Words.Std.{◌≡◌, refl, sym, ap, subst, ℕ, true, false, cond, List, [], ◌∷◌, ◌++◌, map, Option, Some, None}
+use Rattle.sbp_world.proofs.Words.Wire.{judged_note, Moment, asked, said, Terms, terms, Judged, Event, Note}
+use Rattle.sbp_world.proofs.Words.Target.{Disk, Told}
+use Rattle.sbp_world.proofs.Words.Initiator.{CommandOrb}
+use Rattle.sbp_world.proofs.Words.Laws.{answered_at, receiver_in, Target, got_by, is_serial, known_at, over, target_at, EachMoment}
+use Rattle.sbp_world.proofs.Words.World.{AreAskedAt, MayHappen, happens, is_in_flight, may_repeat, MayNext, delivered_at, delivered_next, lowest, Scene, begun, without_notes, AreLed, LedAsGot, AskedAsGot}
 use Rattle.sbp_world.proofs.Lists.FedFolds.{so}
 use Rattle.sbp_world.proofs.Agents.Management.Firsts.{wire_is}
 use Rattle.sbp_world.proofs.Agents.Management.Still.{hist}
-use Rattle.orb_layout.specs.declared.command.CommandOrb.{CommandOrb}
-use Rattle.rbc_disk.specs.Disk.{Disk}
-use Rattle.rbc_disk.specs.Runs.{Told}
-use Rattle.sbp_bus.specs.Packets.{judged_note}
-use Rattle.sbp_journal.specs.Run.{Moment, asked, said}
-use Rattle.sbp_journal.specs.Wire.{Terms, terms}
-use Rattle.sbp_journal.specs.declared.cause.Judged.{Judged}
 use Rattle.sbp_journal.specs.declared.cause.Judged.TheVariants as judgements
-use Rattle.sbp_journal.specs.declared.event.Event.{Event}
 use Rattle.sbp_journal.specs.declared.event.Event.TheVariants as events
-use Rattle.sbp_journal.specs.declared.note.Note.{Note}
 use Rattle.sbp_journal.specs.declared.note.Note.TheVariants as notes
-use Rattle.sbp_laws.specs.Packets.{answered_at, receiver_in}
-use Rattle.sbp_laws.specs.Targets.{Target, got_by, is_serial, known_at, over, target_at}
-use Rattle.sbp_laws.specs.Turns.{EachMoment}
-use Rattle.sbp_world.specs.Lines.{MayHappen, happens}
-use Rattle.sbp_world.specs.Packets.{is_in_flight, may_repeat}
-use Rattle.sbp_world.specs.Settling.{MayAt, MayNext, delivered_at, delivered_next, lowest}
-use Rattle.sbp_world.specs.Worlds.{Scene, begun, without_notes}
-use Rattle.sbp_world.specs.Lists.OrbNames.{AreLed, LedAsGot}
-use Rattle.sbp_world.specs.Lists.OrbReads.{AskedAsGot}
+use Rattle.sbp_world.specs.Settling.{MayAt}
 use Rattle.sbp_world.proofs.Lists.OrbFolds.{AreReading, Has, over_reads}
 use Rattle.sbp_world.proofs.Lists.OrbNotes.{GotBrings, IfGot, note_reads}
 use Rattle.sbp_world.proofs.Lists.OrbWaits.{over_twice}

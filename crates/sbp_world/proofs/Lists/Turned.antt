@@ -1,41 +1,16 @@
 -- Each delivery, and each line of a world that delivers one packet at most, is a turn that leaves the initiators, or one that leaves the target and who has
 -- its places.
-use Rattle.std.proofs.Common.{arith, ◌≡◌, ◌∙◌, refl, sym, ap, subst, ℕ, zero, suc, ◌<◌, ◌≤◌, nat_eq, nat_lt, Bool, true, false, cond, List, [], ◌∷◌, ◌++◌, length, Option, Some, None, Result, Ok, Err}
-use Rattle.std.specs.Prelude.{slice_index_or, slice_set}
-use Rattle.label_table.specs.declared.reply.Stale.{Stale}
-use Rattle.label_table.specs.Layer.{Layer, expiring_step}
-use Rattle.packet_store.specs.declared.sent.Sent.{Sent}
-use Rattle.packet_store.specs.Kept.{found_sent}
-use Rattle.rbc_disk.specs.Runs.{Told}
-use Rattle.sbp_bus.specs.declared.requests.Request.{Request}
-use Rattle.sbp_bus.specs.Generations.{id_of}
-use Rattle.sbp_bus.specs.Packets.{judged_note, no_packet}
-use Rattle.sbp_bus.specs.Requests.{find}
-use Rattle.sbp_initiator.specs.Initiators.{new_state}
-use Rattle.sbp_initiator.specs.Receiving.{receive_step}
-use Rattle.sbp_journal.specs.declared.cause.Judged.{Judged}
+use Rattle.sbp_world.proofs.Words.Std.{arith, ◌≡◌, ◌∙◌, refl, sym, ap, subst, ℕ, zero, suc, ◌<◌, ◌≤◌, nat_eq, nat_lt, Bool, true, false, cond, List, [], ◌∷◌, ◌++◌, length, Option, Some, None, Result, Ok, Err, slice_index_or, slice_set}
+use Rattle.sbp_world.proofs.Words.Wire.{Stale, Layer, expiring_step, Sent, found_sent, Request, id_of, judged_note, no_packet, find, Judged, Event, Note, OutboxState, empty_outbox, Moment, said}
+use Rattle.sbp_world.proofs.Words.Target.{Told, alone, sees, ticks, Purpose, TargetScene, scene, expired, expired_in, received, with_key}
+use Rattle.sbp_world.proofs.Words.Initiator.{new_state, receive_step}
+use Rattle.sbp_world.proofs.Words.Laws.{OrderLaw}
+use Rattle.sbp_world.proofs.Words.World.{Arrival, arrived, at_target, delivered, delivered_by, initiator_received, initiators_received, marked, received_by, received_step, target_received, whole_of, with_initiators, handed_out, MayHappen, happens, keyed, no_unit, reset_line, see_line, target_sees, target_ticks, tick_line, told_seen, with_seen, MayIf, delivered_if, expires, initiator_expires, inject_line, is_in_flight, lose_line, may_repeat, refused, target_expired, target_left, timed_out, timeout_line, timeout_of, Scene, WorldState, begun, with_note, with_target, without_notes, IsLine}
 use Rattle.sbp_journal.specs.declared.cause.Judged.TheVariants as judgements
-use Rattle.sbp_journal.specs.declared.event.Event.{Event}
 use Rattle.sbp_journal.specs.declared.event.Event.TheVariants as events
-use Rattle.sbp_journal.specs.declared.note.Note.{Note}
 use Rattle.sbp_journal.specs.declared.note.Note.TheVariants as notes
-use Rattle.sbp_journal.specs.Outgoings.{OutboxState, empty_outbox}
-use Rattle.sbp_journal.specs.Run.{Moment, said}
-use Rattle.sbp_laws.specs.OrderLaw.{OrderLaw}
-use Rattle.sbp_target.specs.Calls.{alone, sees, ticks}
-use Rattle.sbp_target.specs.declared.purpose.Purpose.{Purpose}
-use Rattle.sbp_target.specs.Nodes.{Scene as TargetScene, scene}
-use Rattle.sbp_target.specs.Receiving.{expired, expired_in, received, with_key}
-use Rattle.sbp_world.specs.declared.parts.delivering.Arrival.{Arrival}
-use Rattle.sbp_world.specs.Delivering.{arrived, at_target, delivered, delivered_by, initiator_received, initiators_received, marked, received_by, received_step, target_received, whole_of, with_initiators}
-use Rattle.sbp_world.specs.Handing.{handed_out}
-use Rattle.sbp_world.specs.Lines.{MayHappen, happens, keyed, no_unit}
-use Rattle.sbp_world.specs.Nodes.{reset_line, see_line, target_sees, target_ticks, tick_line, told_seen, with_seen}
 use Rattle.sbp_world.specs.Nodes as nodes
-use Rattle.sbp_world.specs.Packets.{MayIf, delivered_if, expires, initiator_expires, inject_line, is_in_flight, lose_line, may_repeat, refused, target_expired, target_left, timed_out, timeout_line, timeout_of}
 use Rattle.sbp_world.specs.Packets as packets
-use Rattle.sbp_world.specs.Worlds.{Scene, WorldState, begun, with_note, with_target, without_notes}
-use Rattle.sbp_world.specs.Wire.Lines.{IsLine}
 use Rattle.sbp_world.proofs.Wire.Comes.{own_inside, own_outside, received_is, to_own, to_zero}
 use Rattle.sbp_world.proofs.Wire.Nodes.{handed_alike, marked_alike}
 use Rattle.sbp_world.proofs.Agents.Management.Still.{hist}

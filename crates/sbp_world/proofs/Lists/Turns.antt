@@ -1,51 +1,16 @@
 -- A turn of the target in which a transaction of an agent is answered or times out: the agent stays along its list, and what it tells is in the order.
-use Rattle.std.proofs.Common.{◌≡◌, ◌∙◌, refl, sym, ap, subst, ◌<◌, ◌≤◌, ℕ, nat_eq, Bool, true, false, List, [], ◌∷◌, length, Option, Some, None, arith}
-use Rattle.std.proofs.lemmas.Bool.Decides.{nat_tests}
-use Rattle.std.proofs.Math.ListN.{length-set}
-use Rattle.orb_layout.specs.declared.ask.FailCause.{FailCause}
+use Rattle.sbp_world.proofs.Words.Std.{◌≡◌, ◌∙◌, refl, sym, ap, subst, ◌<◌, ◌≤◌, ℕ, nat_eq, Bool, true, false, List, [], ◌∷◌, length, Option, Some, None, arith, nat_tests, length-set}
+use Rattle.sbp_world.proofs.Words.Wire.{Layer, Cause, Note, empty_outbox, Moment, said, Holder}
+use Rattle.sbp_world.proofs.Words.Target.{Disk, disk_at, Told, PlainDisk, Login, Phase, AgentStep, Which, Main, Ahead, Machine, answer_chunk, lost_step, reply_step, Along, Progress, ahead_beside, main_beside, Brings, chunk_by, heard_by, main_heard, status_by, disk, Desk, Purpose, follow, taken, NodeState, Scene, desk_at, scene, with_desk, expired_by, Stage, advance, announced_by, came, changed_by, follow_all, plain_in, replied, stage, whole}
+use Rattle.sbp_world.proofs.Words.Initiator.{FailCause, Answer, write_failure}
+use Rattle.sbp_world.proofs.Words.Laws.{linked, slot_at, is_cut, appends, ends, lists, ran_status, runs}
+use Rattle.sbp_world.proofs.Words.World.{holder, told_all, WorldState, has_list, Unrun, UnrunLaw, orbs, IsCalm, IsOpenAt, Needs, machine_at, WasHad}
 use Rattle.orb_layout.specs.declared.ask.FailCause.TheVariants as causes
-use Rattle.orb_layout.specs.Replies.{Answer, write_failure}
-use Rattle.rbc_disk.specs.Disk.{Disk, disk_at}
-use Rattle.rbc_disk.specs.Runs.{Told}
-use Rattle.rbc_disk.specs.Units.{PlainDisk}
-use Rattle.label_table.specs.Layer.{Layer}
-use Rattle.login_table.specs.declared.login.Login.{Login}
-use Rattle.command_agent.specs.declared.phase.Phase.{Phase}
 use Rattle.command_agent.specs.declared.phase.Phase.TheVariants as phases
-use Rattle.command_agent.specs.declared.step.AgentStep.{AgentStep}
-use Rattle.command_agent.specs.declared.step.Which.{Which}
-use Rattle.command_agent.specs.declared.step.Which.TheVariants.{Main, Ahead}
-use Rattle.command_agent.specs.Machine.{Machine}
-use Rattle.command_agent.specs.Steps.{answer_chunk, lost_step, reply_step}
-use Rattle.agent_laws.specs.Along.Along.{Along, Progress}
-use Rattle.agent_laws.specs.Along.Requests.{ahead_beside, main_beside}
-use Rattle.agent_laws.specs.Along.Steps.{Brings, chunk_by, heard_by, main_heard, status_by}
-use Rattle.agent_laws.specs.Along.Tried.{disk}
 use Rattle.agent_laws.proofs.Along.Writes.{keeps_along}
-use Rattle.sbp_journal.specs.declared.cause.Cause.{Cause}
-use Rattle.sbp_journal.specs.declared.note.Note.{Note}
 use Rattle.sbp_journal.specs.declared.note.Note.TheVariants as notes
-use Rattle.sbp_journal.specs.Outgoings.{empty_outbox}
-use Rattle.sbp_journal.specs.Run.{Moment, said}
-use Rattle.sbp_laws.specs.Lists.{linked, slot_at}
-use Rattle.sbp_laws.specs.OrderLaw.{is_cut}
-use Rattle.sbp_laws.specs.Terms.{appends, ends, lists, ran_status, runs}
-use Rattle.sbp_bus.specs.declared.places.Holder.{Holder}
-use Rattle.sbp_target.specs.declared.desk.Desk.{Desk}
-use Rattle.sbp_target.specs.declared.purpose.Purpose.{Purpose}
-use Rattle.sbp_target.specs.Agents.{follow}
-use Rattle.sbp_target.specs.Desks.{taken}
-use Rattle.sbp_target.specs.Nodes.{NodeState, Scene, desk_at, scene, with_desk}
-use Rattle.sbp_target.specs.Receiving.{expired_by}
-use Rattle.sbp_target.specs.Replies.{Stage, advance, announced_by, came, changed_by, follow_all, plain_in, replied, stage, whole}
-use Rattle.sbp_world.specs.Telling.{holder, told_all}
-use Rattle.sbp_world.specs.Worlds.{WorldState}
 use Rattle.sbp_target.proofs.Histories.Calling.{Good}
 use Rattle.sbp_world.proofs.Agents.Management.Still.{hist}
-use Rattle.sbp_world.specs.Agents.Alike.{has_list}
-use Rattle.sbp_world.specs.Lists.Running.{Unrun, UnrunLaw}
-use Rattle.sbp_world.specs.Lists.Lists.{orbs}
-use Rattle.sbp_world.specs.Lists.Needs.{IsCalm, IsOpenAt, Needs, machine_at}
 use Rattle.sbp_world.proofs.Lists.Follows.{Mid, Pending, announce_from_mid, follow_mid}
 use Rattle.sbp_world.proofs.Lists.SameAgents.{AreSame, are_self, set_here, set_there}
 use Rattle.sbp_world.proofs.Lists.Kept.{Kept, keeps}
@@ -54,7 +19,6 @@ use Rattle.sbp_world.proofs.Lists.Looks.{Looks, kept_looks, looks_as}
 use Rattle.sbp_world.proofs.Lists.Presents.{lost_presents, replied_presents}
 use Rattle.sbp_world.proofs.Lists.Running.{as_run}
 use Rattle.sbp_world.proofs.Lists.Later.{had_next}
-use Rattle.sbp_world.specs.Lists.CutLists.{WasHad}
 use Rattle.sbp_world.proofs.Lists.Told.{AgentOn, Apart, Due, ListAt, Own}
 use Rattle.sbp_world.proofs.Lists.Passing.{PassLaw, GoesOn}
 use Rattle.sbp_world.proofs.Lists.Stands.{no}

@@ -1,27 +1,16 @@
 -- Over a history in which an initiator sends, in the line of an action of it, a request and nothing else, the operation under way is the one whose first request
 -- was sent; no place of management got another ORB since; and its own place holds the ORB of its action.
-use Rattle.std.proofs.Common.{arith, ◌≡◌, ◌∙◌, refl, sym, ap, subst, inl, inr, ◌⊎◌, ◌≤◌, ◌==◌, ◌%◌, ◌+◌, ◌&&◌, not, ℕ, zero, suc, nat_eq, Bool, true, false, cond, List, [], ◌∷◌, ◌++◌, Option, Some, None}
-use Rattle.std.proofs.lemmas.Bool.Decides.{nat_tests}
-use Rattle.bus_transactions.specs.Packets.{SerialsCount}
-use Rattle.sbp_journal.specs.Run.{Moment, asked, said}
-use Rattle.sbp_journal.specs.Transactions.{Kind, part_of, request}
-use Rattle.sbp_journal.specs.Wire.{terms}
-use Rattle.sbp_journal.specs.declared.event.Action.{Action}
-use Rattle.sbp_journal.specs.declared.event.Event.{Event}
+use Rattle.sbp_world.proofs.Words.Std.{arith, ◌≡◌, ◌∙◌, refl, sym, ap, subst, inl, inr, ◌⊎◌, ◌≤◌, ◌==◌, ◌%◌, ◌+◌, ◌&&◌, not, ℕ, zero, suc, nat_eq, Bool, true, false, cond, List, [], ◌∷◌, ◌++◌, Option, Some, None, nat_tests}
+use Rattle.sbp_world.proofs.Words.Wire.{SerialsCount, Moment, asked, said, Kind, part_of, request, terms, Action, Event, Note, Operation}
+use Rattle.sbp_world.proofs.Words.Laws.{before_sent, Host, Underway, host_at, is_management, known_host, operation_of, present_list, is_own, management_orb_of, place_held, place_written, EachMoment, event_of}
+use Rattle.sbp_world.proofs.Words.World.{AreUnderway, IsSame, IsUnderway, OperationsLast, WasUnderway, underway_orb}
 use Rattle.sbp_journal.specs.declared.event.Event.TheVariants as events
-use Rattle.sbp_journal.specs.declared.note.Note.{Note}
 use Rattle.sbp_journal.specs.declared.note.Note.TheVariants as notes
-use Rattle.sbp_journal.specs.declared.operation.Operation.{Operation}
-use Rattle.sbp_laws.specs.CarriedBytes.{before_sent}
-use Rattle.sbp_laws.specs.Hosts.{Host, Underway, host_at, is_management, known_host, operation_of, sent_as}
-use Rattle.sbp_laws.specs.Lists.{present_list}
-use Rattle.sbp_laws.specs.Served.{is_own, management_orb_of, place_held, place_written}
-use Rattle.sbp_laws.specs.Turns.{EachMoment, event_of}
+use Rattle.sbp_laws.specs.Hosts.{sent_as}
 use Rattle.sbp_world.proofs.Hosts.Carries.{IsNoAct}
 use Rattle.sbp_world.proofs.Hosts.Remaining.{remains, serials_behind}
 use Rattle.sbp_world.proofs.Hosts.SentMoments.{count_now, serials_from}
 use Rattle.sbp_world.proofs.Sessions.PlaceNotes.{is_packet, note_places, sent_places}
-use Rattle.sbp_world.specs.Lists.Underway.{AreUnderway, IsSame, IsUnderway, OperationsLast, WasUnderway, underway_orb}
 use Rattle.sbp_world.proofs.Lists.UnderwayHosts.{Acts, Had, action_acts, begins, carries_on, note_keeps, same_self, same_then, sent_keeps}
 use Rattle.sbp_world.proofs.Common.{none_is, itself}
 

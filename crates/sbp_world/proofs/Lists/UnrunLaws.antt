@@ -1,16 +1,9 @@
 -- In a run in which lists were open as they should be before, an ORB that ran, of a list that was not cut and of which none has ended, is at an agent that has the list open.
-use Rattle.std.proofs.Common.{◌≡◌, inl, inr, ◌⊎◌, subst, ℕ, ◌<◌, true, List, ◌∷◌, ◌++◌, map}
-use Rattle.sbp_journal.specs.Run.{Moment, asked, said}
-use Rattle.sbp_laws.specs.Lawful.{injectors}
-use Rattle.sbp_laws.specs.Terms.{runs}
-use Rattle.sbp_world.specs.Histories.{history_of}
-use Rattle.sbp_world.specs.Runs.{after, beginning}
-use Rattle.sbp_world.specs.Settling.{after_all}
-use Rattle.sbp_world.specs.Worlds.{WorldState, begun}
+use Rattle.sbp_world.proofs.Words.Std.{◌≡◌, inl, inr, ◌⊎◌, subst, ℕ, ◌<◌, true, List, ◌∷◌, ◌++◌, map}
+use Rattle.sbp_world.proofs.Words.Wire.{Moment, asked, said}
+use Rattle.sbp_world.proofs.Words.Laws.{injectors, runs}
+use Rattle.sbp_world.proofs.Words.World.{history_of, after, beginning, after_all, WorldState, begun, Always, Under, initiator_in, is_open_at, Unrun, UnrunLaw}
 use Rattle.sbp_world.proofs.Hosts.Runs.{count_after, count_between, run_law}
-use Rattle.sbp_world.specs.Lists.Closes.{Always, Under}
-use Rattle.sbp_world.specs.Lists.Needs.{initiator_in, is_open_at}
-use Rattle.sbp_world.specs.Lists.Running.{Unrun, UnrunLaw}
 use Rattle.sbp_world.proofs.Lists.Busy.{busy_list}
 use Rattle.sbp_world.proofs.Lists.TurnWalk.{AreNumbered}
 use Rattle.sbp_world.proofs.Lists.UnrunTurns.{AreBusy, IsBusyFor}

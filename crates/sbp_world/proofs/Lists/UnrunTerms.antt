@@ -1,25 +1,13 @@
 -- How often the first ORB of a list ran, by a history that goes on: a list that did not begin yet ran none; an end that is told of the latest list is one of its ORBs;
 -- and lists that were cut or of which some ended stay so.
-use Rattle.std.proofs.Common.{arith, ◌≡◌, ◌∙◌, refl, sym, ap, subst, ◌<◌, ◌≤◌, ◌+◌, ℕ, suc, nat_eq, Bool, true, false, cond, List, [], ◌∷◌, ◌++◌, Option, Some, None}
-use Rattle.std.proofs.lemmas.Bool.Decides.{nat_tests}
-use Rattle.std.proofs.lemmas.Bool.{false≢true}
-use Rattle.std.proofs.lemmas.Option.{same_Some}
-use Rattle.async_packet.specs.Labels.{LabelParts}
-use Rattle.orb_layout.specs.declared.status.StatusKind.{StatusKind}
-use Rattle.sbp_bus.specs.Generations.{node_of}
-use Rattle.sbp_journal.specs.declared.note.Note.{Note}
+use Rattle.sbp_world.proofs.Words.Std.{arith, ◌≡◌, ◌∙◌, refl, sym, ap, subst, ◌<◌, ◌≤◌, ◌+◌, ℕ, suc, nat_eq, Bool, true, false, cond, List, [], ◌∷◌, ◌++◌, Option, Some, None, nat_tests, false≢true, same_Some}
+use Rattle.sbp_world.proofs.Words.Wire.{LabelParts, node_of, Note, Outgoing, Side, Moment, said}
+use Rattle.sbp_world.proofs.Words.Initiator.{StatusKind}
+use Rattle.sbp_world.proofs.Words.Laws.{is_cut, ends, lists, runs}
+use Rattle.sbp_world.proofs.Words.World.{asked, posted, sent, sent_all, sent_to, holder, told, told_all, WorldState, AreOthers, IsOther}
 use Rattle.sbp_journal.specs.declared.note.Note.TheVariants as notes
-use Rattle.sbp_journal.specs.declared.outbox.Outgoing.{Outgoing}
-use Rattle.sbp_journal.specs.declared.side.Side.{Side}
 use Rattle.sbp_journal.specs.declared.side.Side.TheVariants as sides
-use Rattle.sbp_journal.specs.Run.{Moment, said}
-use Rattle.sbp_laws.specs.OrderLaw.{is_cut}
-use Rattle.sbp_laws.specs.Terms.{ends, lists, runs}
-use Rattle.sbp_world.specs.Sending.{asked, posted, sent, sent_all, sent_to}
-use Rattle.sbp_world.specs.Telling.{holder, told, told_all}
-use Rattle.sbp_world.specs.Worlds.{WorldState}
 use Rattle.sbp_world.proofs.Agents.Management.Still.{hist}
-use Rattle.sbp_world.specs.Hosts.Handing.{AreOthers, IsOther}
 use Rattle.sbp_world.proofs.Lists.BusyFollows.{AreOf, has_end}
 use Rattle.sbp_world.proofs.Lists.BusyNotes.{one_holder}
 use Rattle.sbp_world.proofs.Lists.Extends.{all_told}

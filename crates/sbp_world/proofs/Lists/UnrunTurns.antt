@@ -1,30 +1,15 @@
 -- An ORB that ran, of a list that was not cut and of which none has ended, is at an agent that has it still: kept by what others than the target do, and by each call
 -- of the target. In a call each agent stays in its phase, or is cut; or the agent of one place makes a step or takes a pointer, and has its ORB then, or an end is told.
+use Rattle.sbp_world.proofs.Words.Std.{arith, ◌≡◌, ◌∙◌, refl, sym, ap, subst, inl, inr, ◌⊎◌, ◌<◌, ◌≤◌, ℕ, suc, nat_eq, Bool, true, false, List, [], ◌∷◌, ◌++◌, Some, nat_tests, false≢true}
+use Rattle.sbp_world.proofs.Words.Wire.{Layer, Holder, holder_at, OutboxState, Moment, said, Note}
+use Rattle.sbp_world.proofs.Words.Target.{Machine, Purpose, NodeState, desk_at, scene}
+use Rattle.sbp_world.proofs.Words.Laws.{IsOpen, is_cut, ends, lists, runs}
+use Rattle.sbp_world.proofs.Words.World.{handed_out, holder, told_all, WorldState, has_list, AreOthers, initiator_in, machine_at}
 use Rattle.sbp_world.proofs.Lists.Full.{IsFull, full_closed}
-use Rattle.std.proofs.Common.{arith, ◌≡◌, ◌∙◌, refl, sym, ap, subst, inl, inr, ◌⊎◌, ◌<◌, ◌≤◌, ℕ, suc, nat_eq, Bool, true, false, List, [], ◌∷◌, ◌++◌, Some}
-use Rattle.std.proofs.lemmas.Bool.Decides.{nat_tests}
-use Rattle.std.proofs.lemmas.Bool.{false≢true}
-use Rattle.command_agent.specs.Machine.{Machine}
-use Rattle.label_table.specs.Layer.{Layer}
-use Rattle.sbp_bus.specs.declared.places.Holder.{Holder}
-use Rattle.sbp_bus.specs.Places.{holder_at}
-use Rattle.sbp_journal.specs.Outgoings.{OutboxState}
-use Rattle.sbp_journal.specs.Run.{Moment, said}
-use Rattle.sbp_journal.specs.declared.note.Note.{Note}
-use Rattle.sbp_laws.specs.OrderLaw.{IsOpen, is_cut}
-use Rattle.sbp_laws.specs.Terms.{ends, lists, runs}
-use Rattle.sbp_target.specs.declared.purpose.Purpose.{Purpose}
-use Rattle.sbp_target.specs.Nodes.{NodeState, desk_at, scene}
-use Rattle.sbp_world.specs.Handing.{handed_out}
-use Rattle.sbp_world.specs.Telling.{holder, told_all}
-use Rattle.sbp_world.specs.Worlds.{WorldState}
 use Rattle.sbp_world.proofs.Wire.Nodes.{handed_alike}
 use Rattle.sbp_target.proofs.Histories.Calling.{Good}
 use Rattle.sbp_world.proofs.Agents.Management.Still.{hist}
 use Rattle.sbp_world.proofs.Agents.Peers.{all_sent_places}
-use Rattle.sbp_world.specs.Agents.Alike.{has_list}
-use Rattle.sbp_world.specs.Hosts.Handing.{AreOthers}
-use Rattle.sbp_world.specs.Lists.Needs.{initiator_in, machine_at}
 use Rattle.sbp_world.proofs.Lists.Adds.{Stays, all_stay}
 use Rattle.sbp_world.proofs.Lists.Busy.{busy_list, is_busy}
 use Rattle.sbp_world.proofs.Lists.BusyCuts.{Cutting, WasCut}

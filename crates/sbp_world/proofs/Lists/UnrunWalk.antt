@@ -1,24 +1,14 @@
 -- In a run in which lists were open as they should be before, an ORB that ran, of a list that was not cut and of which none has ended, is at an agent that has the list
 -- open: kept by each turn, by what the turn is to the target.
-use Rattle.std.proofs.Common.{arith, ◌≡◌, ◌∙◌, refl, sym, ap, subst, inl, inr, ◌⊎◌, ◌<◌, ℕ, List, [], ◌∷◌, Bool, Some}
-use Rattle.rbc_disk.specs.Disk.{Disk}
-use Rattle.sbp_bus.specs.Places.{holder_at}
-use Rattle.sbp_journal.specs.declared.event.Event.{Event}
+use Rattle.sbp_world.proofs.Words.Std.{arith, ◌≡◌, ◌∙◌, refl, sym, ap, subst, inl, inr, ◌⊎◌, ◌<◌, ℕ, List, [], ◌∷◌, Bool, Some}
+use Rattle.sbp_world.proofs.Words.Wire.{holder_at, Event, Moment, asked, said}
+use Rattle.sbp_world.proofs.Words.Target.{Disk, alone, NodeState, TargetScene, desk_at, with_key}
+use Rattle.sbp_world.proofs.Words.Laws.{ends, runs}
+use Rattle.sbp_world.proofs.Words.World.{moments_behind, Run, beginning, holder, told_all, WorldState, orbs, initiator_in}
 use Rattle.sbp_journal.specs.declared.note.Note.TheVariants as notes
-use Rattle.sbp_journal.specs.Run.{Moment, asked, said}
-use Rattle.sbp_laws.specs.Terms.{ends, runs}
-use Rattle.sbp_target.specs.Calls.{alone}
-use Rattle.sbp_target.specs.Nodes.{NodeState, Scene as TargetScene, desk_at}
-use Rattle.sbp_target.specs.Receiving.{with_key}
-use Rattle.sbp_world.specs.Histories.{moments_behind}
-use Rattle.sbp_world.specs.Runs.{Run, beginning}
-use Rattle.sbp_world.specs.Telling.{holder, told_all}
-use Rattle.sbp_world.specs.Worlds.{WorldState}
 use Rattle.sbp_world.proofs.Wire.Nodes.{handed_alike}
 use Rattle.sbp_world.proofs.Agents.Management.Still.{hist}
 use Rattle.sbp_world.proofs.Agents.Peers.{all_sent_places}
-use Rattle.sbp_world.specs.Lists.Lists.{orbs}
-use Rattle.sbp_world.specs.Lists.Needs.{initiator_in}
 use Rattle.sbp_world.proofs.Lists.Busy.{is_busy, some_ended}
 use Rattle.sbp_world.proofs.Lists.OpenCuts.{Listing}
 use Rattle.sbp_world.proofs.Lists.Passing.{PassLaw}

@@ -1,5 +1,10 @@
 -- A statement that each turn of a run keeps holds at every place of the run between two turns, where lists were open as they should be before this place. A turn
 -- is a line that delivers one packet at most, the beginning of one that delivers more, a delivery of it, and the end of one that settles.
+use Rattle.sbp_world.proofs.Words.Std.{arith, ◌≡◌, ◌∙◌, refl, sym, subst, ℕ, ◌+◌, ◌^◌, ◌<◌, ◌≤◌, Bool, false, List, [], ◌∷◌, ◌++◌, map, length, Option}
+use Rattle.sbp_world.proofs.Words.Wire.{end_note, Event, Moment, asked, said}
+use Rattle.sbp_world.proofs.Words.Target.{Disk, Told}
+use Rattle.sbp_world.proofs.Words.Laws.{injectors}
+use Rattle.sbp_world.proofs.Words.World.{history_of, moments_behind, MayHappen, happens, ready_logins, AreEntries, Entry, Run, after, beginning, MayAll, MayNext, after_all, delivered_next, is_settled, settled_from, AreLines, IsLine, Scene, WorldState, begun, DeliversMore, IsRun, more_deliveries, Always, Under, IsCalm, OpenAfter, OpenBefore, OpenBehind, OpenBetween, OpenIn, OpenLists, OpenWhile, machine_at, OpensLaw}
 use Rattle.sbp_world.proofs.Agents.Management.Runs.{no_repeats, not_reset}
 use Rattle.sbp_world.proofs.Agents.Holders.{seats_after}
 use Rattle.sbp_world.proofs.Agents.Management.Lines.{opens}
@@ -7,33 +12,14 @@ use Rattle.sbp_world.proofs.Agents.Seats.{Seats}
 use Rattle.sbp_world.proofs.Agents.Seating.{opened as seats_opened}
 use Rattle.sbp_world.proofs.Agents.Units.{AreThe, units_after}
 use Rattle.sbp_world.proofs.Agents.UnitsLines.{Units, all_units, opened as units_opened}
-use Rattle.std.proofs.Common.{arith, ◌≡◌, ◌∙◌, refl, sym, subst, ℕ, ◌+◌, ◌^◌, ◌<◌, ◌≤◌, Bool, false, List, [], ◌∷◌, ◌++◌, map, length, Option}
-use Rattle.rbc_disk.specs.Disk.{Disk}
-use Rattle.rbc_disk.specs.Runs.{Told}
-use Rattle.sbp_bus.specs.Packets.{end_note}
-use Rattle.sbp_journal.specs.declared.event.Event.{Event}
 use Rattle.sbp_journal.specs.declared.event.Event.TheVariants as events
-use Rattle.sbp_journal.specs.Run.{Moment, asked, said}
-use Rattle.sbp_laws.specs.Lawful.{injectors}
-use Rattle.sbp_world.specs.Histories.{history_of, moments_behind}
-use Rattle.sbp_world.specs.Lines.{MayHappen, happens}
-use Rattle.sbp_world.specs.Making.{ready_logins}
-use Rattle.sbp_world.specs.Runs.{AreEntries, Entry, Run, after, beginning}
-use Rattle.sbp_world.specs.Settling.{MayAll, MayNext, after_all, delivered_next, is_settled, settled_from}
-use Rattle.sbp_world.specs.Wire.Lines.{AreLines, IsLine}
-use Rattle.sbp_world.specs.Worlds.{Scene, WorldState, begun}
-use Rattle.sbp_world.specs.Agents.Management.Terms.{DeliversMore}
 use Rattle.sbp_world.proofs.Agents.Management.Holding.{Holding}
 use Rattle.sbp_world.proofs.Agents.Management.Still.{hist}
-use Rattle.sbp_world.specs.Hosts.Runs.{IsRun, more_deliveries}
 use Rattle.sbp_world.proofs.Hosts.Runs.{count_after, count_between, are_told}
-use Rattle.sbp_world.specs.Lists.Closes.{Always, Under}
-use Rattle.sbp_world.specs.Lists.Needs.{IsCalm, OpenAfter, OpenBefore, OpenBehind, OpenBetween, OpenIn, OpenLists, OpenWhile, machine_at}
 use Rattle.sbp_world.proofs.Lists.Courses.{EveryPlace}
 use Rattle.sbp_world.proofs.Lists.Calm.{asked_calm, calm_before}
 use Rattle.sbp_world.proofs.Lists.Kept.{Kept}
 use Rattle.sbp_world.proofs.Lists.Passes.{ready}
-use Rattle.sbp_world.specs.Lists.Opens.{OpensLaw}
 use Rattle.sbp_world.proofs.Lists.OpenProved.{opens_law}
 use Rattle.sbp_world.proofs.Lists.Runs.{EarlyAfter, KeptAfter, as_front, at_told, calm_at, calm_back, early_after, facts, facts_at, history_is, holds_at, is_run, kept_told, lists_at, lists_here, next_holds, next_is, next_kept, site, site_at}
 use Rattle.sbp_world.proofs.Lists.RunSites.{more_by}

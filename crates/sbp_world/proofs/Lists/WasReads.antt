@@ -1,34 +1,16 @@
 -- What is known of a response that brought an ORB, at a later moment: the read that it answered, what it spells, and when the read was sent.
-use Rattle.std.proofs.Common.{arith, ◌≡◌, ◌∙◌, refl, sym, ap, subst, ◌<◌, ◌≤◌, ◌+◌, ◌==◌, ℕ, suc, Bool, true, false, cond, List, [], ◌∷◌, ◌++◌, length, Option, Some, None, Ok, Err}
+use Rattle.sbp_world.proofs.Words.Std.{arith, ◌≡◌, ◌∙◌, refl, sym, ap, subst, ◌<◌, ◌≤◌, ◌+◌, ◌==◌, ℕ, suc, Bool, true, false, cond, List, [], ◌∷◌, ◌++◌, length, Option, Some, None, Ok, Err, nat_tests}
+use Rattle.sbp_world.proofs.Words.Wire.{SerialsCount, Access, Moment, asked, said, Sending, terms, Note}
+use Rattle.sbp_world.proofs.Words.Target.{Disk}
+use Rattle.sbp_world.proofs.Words.Initiator.{FailCause, CommandOrb, command_orb, Answer, Done, Expired, NoLabel, Payload, Refused, payload_of, start_of}
+use Rattle.sbp_world.proofs.Words.Laws.{IsRead, WasRead, address_of, before_sent, open_list, orb_read, payload_at, was_got, access_at, access_in, answer_in, packet_at, packet_in, receiver_in, sender_in, initiator_at, is_serial, over, target_at, appends, named_orb, prepared_in, EachMoment}
+use Rattle.sbp_world.proofs.Words.World.{read_access, Remains, IsCalm, AnswersAt, IsBrought, SentAsGot, AreSentBehind}
 use Rattle.std.specs.Prelude.{IsSomeAnd}
-use Rattle.std.proofs.lemmas.Bool.Decides.{nat_tests}
-use Rattle.sbp_world.specs.Agents.AskedRuns.{read_access}
-use Rattle.bus_transactions.specs.Packets.{SerialsCount}
 use Rattle.sbp_world.proofs.Hosts.Remaining.{remains, remains_on}
 use Rattle.sbp_world.proofs.Hosts.SentMoments.{sent_below, serials_from}
-use Rattle.sbp_world.specs.Hosts.Remaining.{Remains}
-use Rattle.orb_layout.specs.declared.ask.FailCause.{FailCause}
-use Rattle.orb_layout.specs.declared.command.CommandOrb.{CommandOrb}
-use Rattle.orb_layout.specs.CommandOrbs.{command_orb}
-use Rattle.orb_layout.specs.Replies.{Answer, Done, Expired, NoLabel, Payload, Refused, payload_of}
-use Rattle.rbc_disk.specs.Disk.{Disk}
-use Rattle.sbp_journal.specs.Addresses.{Access}
-use Rattle.sbp_journal.specs.Run.{Moment, asked, said}
-use Rattle.sbp_journal.specs.Transactions.{Sending}
-use Rattle.sbp_journal.specs.Wire.{terms}
-use Rattle.sbp_journal.specs.declared.note.Note.{Note}
 use Rattle.sbp_journal.specs.declared.note.Note.TheVariants as notes
-use Rattle.sbp_laws.specs.CarriedBytes.{IsRead, WasRead, address_of, before_sent, bytes_in, open_list, orb_read, payload_at, was_got}
-use Rattle.sbp_laws.specs.Packets.{access_at, access_in, answer_in, packet_at, packet_in, receiver_in, sender_in}
-use Rattle.sbp_laws.specs.Targets.{initiator_at, is_serial, over, target_at}
-use Rattle.sbp_laws.specs.Terms.{appends}
+use Rattle.sbp_laws.specs.CarriedBytes.{bytes_in}
 use Rattle.bus_memory.specs.declared.window.Window.TheVariants as windows
-use Rattle.bus_memory.specs.Windows.{start as start_of}
-use Rattle.sbp_laws.specs.Lists.{orb as named_orb, prepared_in}
-use Rattle.sbp_laws.specs.Turns.{EachMoment}
-use Rattle.sbp_world.specs.Lists.Needs.{IsCalm}
-use Rattle.sbp_world.specs.Lists.OrbReads.{AnswersAt, IsBrought, SentAsGot}
-use Rattle.sbp_world.specs.Lists.SentReads.{AreSentBehind}
 use Rattle.sbp_world.proofs.Lists.Calm.{injects_before}
 use Rattle.sbp_world.proofs.Lists.Slots.{orb_slot}
 use Rattle.sbp_world.proofs.Lists.ManageTerms.{same_some}

@@ -1,19 +1,11 @@
 -- What answers a write of the target brings no bytes.
-use Rattle.std.proofs.Common.{◌≡◌, ◌∙◌, refl, sym, ap, ◌==◌, ℕ, Bool, true, false, cond, List, [], Some, None, Result, Ok, Err}
-use Rattle.async_packet.specs.declared.fault.PacketFault.{PacketFault}
-use Rattle.async_packet.specs.Packet.{Packet, lock, lock_response, read_block, read_block_response, read_quadlet, read_quadlet_response, write_block, write_quadlet, write_response}
-use Rattle.async_packet.specs.Reading.{reading}
-use Rattle.bus_transactions.specs.Reached.{IsAwaited}
+use Rattle.sbp_world.proofs.Words.Std.{◌≡◌, ◌∙◌, refl, sym, ap, ◌==◌, ℕ, Bool, true, false, cond, List, [], Some, None, Result, Ok, Err}
+use Rattle.sbp_world.proofs.Words.Wire.{PacketFault, Packet, lock, lock_response, read_block, read_block_response, read_quadlet, read_quadlet_response, write_block, write_quadlet, write_response, reading, IsAwaited, Access, Moment, Kind, Sending, Transaction, between, is_same_kind, part_by, part_in, part_of, reading_block, reading_quadlet, request, response, writing, Held, Terms, terms, waits}
+use Rattle.sbp_world.proofs.Words.Initiator.{Done, Refused}
+use Rattle.sbp_world.proofs.Words.Laws.{payload_at, access_at, access_in, answer_in, answer_of, answered_at, closed_by, packet_in, spelled_by}
+use Rattle.sbp_world.proofs.Words.World.{WorldState, Stands}
 use Rattle.bus_transactions.proofs.Reaches.{goes_on}
-use Rattle.orb_layout.specs.Replies.{Done, Refused}
-use Rattle.sbp_journal.specs.Addresses.{Access}
-use Rattle.sbp_journal.specs.Run.{Moment}
-use Rattle.sbp_journal.specs.Transactions.{Kind, Sending, Transaction, between, is_same_kind, part_by, part_in, part_of, reading_block, reading_quadlet, request, response, writing}
-use Rattle.sbp_journal.specs.Wire.{Held, Terms, terms, waits}
-use Rattle.sbp_laws.specs.CarriedBytes.{bytes_in, payload_at}
-use Rattle.sbp_laws.specs.Packets.{access_at, access_in, answer_in, answer_of, answered_at, closed_by, packet_in, spelled_by}
-use Rattle.sbp_world.specs.Worlds.{WorldState}
-use Rattle.sbp_world.specs.Wire.Wires.{Stands}
+use Rattle.sbp_laws.specs.CarriedBytes.{bytes_in}
 use Rattle.sbp_world.proofs.Agents.Management.Holding.{past_terms}
 use Rattle.sbp_world.proofs.Agents.Management.Still.{hist}
 use Rattle.sbp_world.proofs.Lists.BegunBy.{IsHeld, held_by}

@@ -1,25 +1,11 @@
 -- What an action leaves: the list that its initiator has is the present one by the run.
-use Rattle.std.proofs.Common.{arith, ◌≡◌, refl, sym, ◌∙◌, ap, subst, ℕ, true, List, Option, Some, None, Result, Ok, Err}
-use Rattle.std.proofs.lemmas.Bool.Decides.{nat_tests}
-use Rattle.orb_list.specs.declared.fault.ListFault.{ListFault}
-use Rattle.orb_list.specs.declared.list.PresentList.{PresentList}
-use Rattle.orb_list.specs.Table.{SlotTable, checked, pin_at, pin_step}
-use Rattle.orb_list.specs.Tickets.{TicketParts}
-use Rattle.sbp_journal.specs.Outgoings.{empty_outbox}
-use Rattle.sbp_journal.specs.Run.{Moment}
-use Rattle.sbp_journal.specs.declared.event.Action.{Action}
+use Rattle.sbp_world.proofs.Words.Std.{arith, ◌≡◌, refl, sym, ◌∙◌, ap, subst, ℕ, true, List, Option, Some, None, Result, Ok, Err, nat_tests}
+use Rattle.sbp_world.proofs.Words.Wire.{empty_outbox, Moment, Action, Side}
+use Rattle.sbp_world.proofs.Words.Initiator.{ListFault, PresentList, SlotTable, checked, pin_at, pin_step, TicketParts, InitiatorState, IsAction, act_step, Turn, is_list, acts}
+use Rattle.sbp_world.proofs.Words.Laws.{present_list}
+use Rattle.sbp_world.proofs.Words.World.{behind, AreRows, present_in, IsHost}
 use Rattle.sbp_journal.specs.declared.event.Action.TheVariants as actions
-use Rattle.sbp_journal.specs.declared.side.Side.{Side}
-use Rattle.sbp_initiator.specs.declared.state.InitiatorState.{InitiatorState}
-use Rattle.sbp_initiator.specs.Acting.{IsAction, act_step}
-use Rattle.sbp_initiator.specs.Effects.{Turn}
-use Rattle.sbp_initiator.specs.States.{is_list}
-use Rattle.sbp_laws.specs.Lists.{present_list}
-use Rattle.sbp_initiator.specs.Histories.Laws.{acts}
-use Rattle.sbp_world.specs.Hosts.Calls.{Left, behind}
-use Rattle.sbp_world.specs.Hosts.Fits.{AreRows}
-use Rattle.sbp_world.specs.Hosts.Rows.{present_in}
-use Rattle.sbp_world.specs.Hosts.Worlds.{IsHost}
+use Rattle.sbp_world.specs.Hosts.Calls.{Left}
 use Rattle.sbp_world.proofs.Hosts.Acts.{act_left}
 use Rattle.sbp_world.proofs.Hosts.Liners.{host_listed, number_call}
 use Rattle.sbp_world.proofs.Pointers.Showing.{IsShowing}

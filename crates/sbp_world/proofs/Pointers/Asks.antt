@@ -1,32 +1,15 @@
 -- What an action asks for, as it is done: which request leaves, and what was judged of the action.
-use Rattle.std.specs.Prelude.{unwrap_or}
-use Rattle.std.proofs.Common.{◌≡◌, refl, sym, ◌∙◌, ap, ℕ, is_some, Bool, true, false, cond, [], ◌∷◌, ◌++◌, Option, Some, None}
-use Rattle.label_table.specs.declared.judgement.Asked.{Asked}
-use Rattle.label_table.specs.Bodies.{header_to, request_with}
-use Rattle.label_table.specs.Layer.{Layer}
+use Rattle.sbp_world.proofs.Words.Std.{unwrap_or, ◌≡◌, refl, sym, ◌∙◌, ap, ℕ, is_some, Bool, true, false, cond, [], ◌∷◌, ◌++◌, Option, Some, None}
+use Rattle.sbp_world.proofs.Words.Wire.{Asked, header_to, request_with, Layer, Access, access_of, empty_outbox, Action, Outgoing}
+use Rattle.sbp_world.proofs.Words.Initiator.{start, Seat, points, response_in, Demand, Purpose, InitiatorState, act_step, asked_as, asked_for, demand_of, demanded_as, done_step, facts_with, first_in, judged_as, manage_demand, register_of, ring_demand, is_in_live, is_list_step, prepares, refusal, rings, is_unwritten, place_of, session_of, wanted_body}
+use Rattle.sbp_world.proofs.Words.Laws.{cuts_list, live, operation_of}
+use Rattle.sbp_world.proofs.Words.World.{session_in, managed_write, manages, register_write}
 use Rattle.bus_memory.specs.declared.window.Window.TheVariants as windows
-use Rattle.bus_memory.specs.Windows.{start}
-use Rattle.sbp_journal.specs.Addresses.{Access, access_of}
-use Rattle.sbp_journal.specs.Outgoings.{empty_outbox}
-use Rattle.sbp_journal.specs.declared.event.Action.{Action}
 use Rattle.sbp_journal.specs.declared.event.Action.TheVariants as actions
-use Rattle.sbp_journal.specs.declared.outbox.Outgoing.{Outgoing}
-use Rattle.sbp_session.specs.declared.seat.Seat.{Seat}
 use Rattle.sbp_session.specs.declared.seat.Seat.TheVariants as seats
-use Rattle.sbp_session.specs.Seats.{points, response_in}
-use Rattle.sbp_initiator.specs.declared.purpose.Demand.{Demand}
-use Rattle.sbp_initiator.specs.declared.purpose.Purpose.{Purpose}
 use Rattle.sbp_initiator.specs.declared.purpose.Wanted.TheVariants as wants
-use Rattle.sbp_initiator.specs.declared.state.InitiatorState.{InitiatorState}
-use Rattle.sbp_initiator.specs.Acting.{act_step, asked_as, asked_for, demand_of, demanded_as, done_step, facts_with, first_in, judged_as, manage_demand, register_of, ring_demand}
-use Rattle.sbp_initiator.specs.Refusals.{is_in_live, is_list_step, prepares, refusal, rings}
-use Rattle.sbp_initiator.specs.States.{is_unwritten, place_of, session_of, wanted_body}
-use Rattle.sbp_laws.specs.Actions.{cuts_list}
-use Rattle.sbp_laws.specs.Hosts.{live, operation_of}
 use Rattle.sbp_initiator.proofs.Histories.Actions.{Allowed, allowed}
-use Rattle.sbp_world.specs.Hosts.Core.{session_in}
 use Rattle.sbp_world.proofs.Hosts.Requested.{done_sends}
-use Rattle.sbp_world.specs.Pointers.Moments.{managed_write, manages, register_write}
 use Rattle.sbp_world.proofs.Common.{some_none, none_is, untrue}
 
 -- ---- which action was judged so

@@ -1,49 +1,17 @@
 -- At whose registers an initiator writes and reads, as it does an action.
-use Rattle.std.proofs.Common.{arith, ◌≡◌, ◌⊎◌, inl, inr, refl, sym, ◌∙◌, ap, subst, ℕ, suc, ◌+◌, ◌<◌, ◌≤◌, ◌&&◌, nat_eq, is_some, not, Bool, true, false, cond, List, [], ◌∷◌, Option, Some, None}
-use Rattle.std.proofs.lemmas.Bool.Decides.{nat_tests}
-use Rattle.std.proofs.lemmas.Option.{same_Some}
+use Rattle.sbp_world.proofs.Words.Std.{arith, ◌≡◌, ◌⊎◌, inl, inr, refl, sym, ◌∙◌, ap, subst, ℕ, suc, ◌+◌, ◌<◌, ◌≤◌, ◌&&◌, nat_eq, is_some, not, Bool, true, false, cond, List, [], ◌∷◌, Option, Some, None, nat_tests, same_Some}
+use Rattle.sbp_world.proofs.Words.Wire.{header_to, request_with, Access, access_of, empty_outbox, Moment, said, Sending, Terms, terms, Action, Note, Outgoing}
+use Rattle.sbp_world.proofs.Words.Initiator.{start, LoginResponse, PresentList, list_number, Demand, Wanted, InitiatorState, act_step, demand_of, first_in, ring_demand, Turn, fits_session, is_in_live, is_live, prepares, rings, is_list, is_unwritten, session_of, wanted_body, carried, response_in, Seat, own}
+use Rattle.sbp_world.proofs.Words.Laws.{action_notes, new_list, new_number, Host, Session, Underway, acted, host_at, leaving, live, operation_of, ring, told_of, present_list, access_in_bytes, lists, event_of}
+use Rattle.sbp_world.proofs.Words.World.{behind, Core, session_in, AreRows, ReadAs, present_in, AreUnrefused, is_seated, register_read, IsResetting, is_state, names_answered, own_action, pointer_write, register_write, state_list, list_if, pointed_list}
 use Rattle.bus_memory.specs.declared.window.Window.TheVariants as windows
-use Rattle.bus_memory.specs.Windows.{start}
-use Rattle.label_table.specs.Bodies.{header_to, request_with}
-use Rattle.orb_layout.specs.declared.login.LoginResponse.{LoginResponse}
-use Rattle.orb_list.specs.declared.list.PresentList.{PresentList}
-use Rattle.orb_list.specs.Table.{list_number}
-use Rattle.sbp_journal.specs.Addresses.{Access, access_of}
-use Rattle.sbp_journal.specs.Outgoings.{empty_outbox}
-use Rattle.sbp_journal.specs.Run.{Moment, said}
-use Rattle.sbp_journal.specs.Transactions.{Sending}
-use Rattle.sbp_journal.specs.Wire.{Terms, terms}
-use Rattle.sbp_journal.specs.declared.event.Action.{Action}
 use Rattle.sbp_journal.specs.declared.event.Action.TheVariants as actions
 use Rattle.sbp_journal.specs.declared.event.Event.TheVariants as events
-use Rattle.sbp_journal.specs.declared.note.Note.{Note}
 use Rattle.sbp_journal.specs.declared.note.Note.TheVariants as notes
 use Rattle.sbp_journal.specs.declared.operation.Operation.TheVariants as operations
-use Rattle.sbp_journal.specs.declared.outbox.Outgoing.{Outgoing}
-use Rattle.sbp_initiator.specs.declared.purpose.Demand.{Demand}
-use Rattle.sbp_initiator.specs.declared.purpose.Wanted.{Wanted}
-use Rattle.sbp_initiator.specs.declared.state.InitiatorState.{InitiatorState}
-use Rattle.sbp_initiator.specs.Acting.{act_step, demand_of, first_in, ring_demand}
-use Rattle.sbp_initiator.specs.Effects.{Turn}
-use Rattle.sbp_initiator.specs.Refusals.{fits_session, is_in_live, is_live, prepares, rings}
-use Rattle.sbp_initiator.specs.States.{is_list, is_unwritten, session_of, wanted_body}
-use Rattle.sbp_laws.specs.Actions.{action_notes, new_list, new_number}
-use Rattle.sbp_laws.specs.Hosts.{Host, Session, Underway, acted, host_at, is_serial, leaving, live, operation_of, ring, told_of}
-use Rattle.sbp_laws.specs.Lists.{present_list}
-use Rattle.sbp_laws.specs.Packets.{access_in_bytes}
-use Rattle.sbp_laws.specs.Terms.{lists}
-use Rattle.sbp_laws.specs.Turns.{event_of}
-use Rattle.sbp_session.specs.Laws.{carried}
-use Rattle.sbp_session.specs.Seats.{response_in}
-use Rattle.sbp_session.specs.declared.seat.Seat.{Seat}
+use Rattle.sbp_laws.specs.Hosts.{is_serial}
 use Rattle.sbp_session.specs.declared.seat.Seat.TheVariants as seats
-use Rattle.sbp_initiator.specs.Histories.Ends.{own}
 use Rattle.sbp_initiator.proofs.Histories.Actions.{Allowed}
-use Rattle.sbp_world.specs.Hosts.Calls.{behind}
-use Rattle.sbp_world.specs.Hosts.Core.{Core, session_in}
-use Rattle.sbp_world.specs.Hosts.Fits.{AreRows}
-use Rattle.sbp_world.specs.Hosts.Reading.{ReadAs}
-use Rattle.sbp_world.specs.Hosts.Rows.{present_in}
 use Rattle.sbp_world.proofs.Hosts.ActLeft.{ActLeft, act_left}
 use Rattle.sbp_world.proofs.Hosts.Asked.{IsRequest, number_in}
 use Rattle.sbp_world.proofs.Hosts.Carries.{Does, IsLineOf}
@@ -54,9 +22,6 @@ use Rattle.sbp_world.proofs.Hosts.Pointing.{wrote_is}
 use Rattle.sbp_world.proofs.Hosts.Readings.{read_law}
 use Rattle.sbp_world.proofs.Hosts.Shown.{IsShown}
 use Rattle.sbp_world.proofs.Hosts.Telling.{action_law}
-use Rattle.sbp_world.specs.Pointers.Bases.{AreUnrefused, is_seated, register_read}
-use Rattle.sbp_world.specs.Pointers.Moments.{IsResetting, is_state, names_answered, own_action, pointer_write, register_write, state_list}
-use Rattle.sbp_world.specs.Pointers.Pointers.{list_if, pointed_list}
 use Rattle.sbp_world.proofs.Pointers.ActShows.{act_showing}
 use Rattle.sbp_world.proofs.Pointers.Asks.{act_allowed, act_bytes, asks_for, live_session, ring_list, ring_wanted, ringing}
 use Rattle.sbp_world.proofs.Pointers.BaseSeats.{live_seated, seated_live}

@@ -1,23 +1,15 @@
 -- What moves a session that has a list: the moves that end no operation by a status leave it so, and the response that it carries; and so does the end of an
 -- operation, but for a logout.
-use Rattle.std.proofs.Common.{◌≡◌, refl, sym, ◌∙◌, Bool, true, false, cond, Some}
-use Rattle.sbp_journal.specs.declared.event.Action.{Action}
+use Rattle.sbp_world.proofs.Words.Std.{◌≡◌, refl, sym, ◌∙◌, Bool, true, false, cond, Some}
+use Rattle.sbp_world.proofs.Words.Wire.{Action, Operation}
+use Rattle.sbp_world.proofs.Words.Initiator.{moves_session, fits_session, is_in_live, is_leaving, is_stuck, session_of, carried, carried_on, Event, bad, conflict, entered, failed, goes, good, pointed, pointing, reset, sent, Origin, Seat}
+use Rattle.sbp_world.proofs.Words.World.{session_in, is_seated}
 use Rattle.sbp_journal.specs.declared.event.Action.TheVariants as actions
-use Rattle.sbp_journal.specs.declared.operation.Operation.{Operation}
 use Rattle.sbp_journal.specs.declared.operation.Operation.TheVariants as operations
-use Rattle.sbp_initiator.specs.Effects.{moves_session}
-use Rattle.sbp_initiator.specs.Refusals.{fits_session, is_in_live, is_leaving, is_stuck}
-use Rattle.sbp_initiator.specs.States.{session_of}
 use Rattle.sbp_session.proofs.Rows.{response_by_moves}
-use Rattle.sbp_session.specs.Laws.{carried, carried_on}
-use Rattle.sbp_session.specs.Moves.{Event, bad, conflict, entered, failed, goes, good, pointed, pointing, reset, sent}
-use Rattle.sbp_session.specs.declared.seat.Origin.{Origin}
 use Rattle.sbp_session.specs.declared.seat.Origin.TheVariants as origins
-use Rattle.sbp_session.specs.declared.seat.Seat.{Seat}
 use Rattle.sbp_session.specs.declared.seat.Seat.TheVariants as seats
-use Rattle.sbp_world.specs.Hosts.Core.{session_in}
 use Rattle.sbp_world.proofs.Hosts.Knowing.{Sits}
-use Rattle.sbp_world.specs.Pointers.Bases.{is_seated}
 use Rattle.sbp_world.proofs.Pointers.Walks.{is_kept}
 use Rattle.sbp_world.proofs.Lists.Bases.{seated}
 use Rattle.sbp_world.proofs.Common.{untrue}

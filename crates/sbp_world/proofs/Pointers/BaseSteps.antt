@@ -1,40 +1,14 @@
 -- An action leaves the response that the session carries; and a read of AGENT_STATE that tells of a list stands behind the answer to its ORB_POINTER write.
-use Rattle.std.proofs.Common.{arith, ◌≡◌, refl, sym, ◌∙◌, ap, ℕ, zero, suc, ◌+◌, ◌==◌, ◌&&◌, nat_eq, Bool, true, false, cond, List, [], ◌∷◌, Option, Some, None}
-use Rattle.std.proofs.lemmas.Bool.Decides.{nat_tests}
-use Rattle.std.proofs.lemmas.Option.{same_Some}
-use Rattle.bus_transactions.specs.Packets.{SerialsCount}
-use Rattle.bus_transactions.specs.Sent.{AreSent}
-use Rattle.label_table.specs.declared.judgement.Asked.{Asked}
-use Rattle.label_table.specs.Layer.{Layer}
-use Rattle.orb_layout.specs.declared.login.LoginResponse.{LoginResponse}
-use Rattle.orb_list.specs.declared.list.PresentList.{PresentList}
-use Rattle.orb_list.specs.Lists.{ListState, high_lists, low_lists}
-use Rattle.orb_list.specs.Table.{find_in}
-use Rattle.orb_list.specs.Tickets.{TicketParts}
-use Rattle.sbp_journal.specs.Outgoings.{OutboxState, empty_outbox}
-use Rattle.sbp_journal.specs.Run.{Moment, asked, said}
-use Rattle.sbp_journal.specs.Wire.{terms}
-use Rattle.sbp_journal.specs.declared.event.Action.{Action}
+use Rattle.sbp_world.proofs.Words.Std.{arith, ◌≡◌, refl, sym, ◌∙◌, ap, ℕ, zero, suc, ◌+◌, ◌==◌, ◌&&◌, nat_eq, Bool, true, false, cond, List, [], ◌∷◌, Option, Some, None, nat_tests, same_Some}
+use Rattle.sbp_world.proofs.Words.Wire.{SerialsCount, AreSent, Asked, Layer, OutboxState, empty_outbox, Moment, asked, said, terms, Action, Cmd}
+use Rattle.sbp_world.proofs.Words.Initiator.{LoginResponse, PresentList, ListState, high_lists, low_lists, find_in, TicketParts, act_step, append_step, asked_as, asked_for, demand_of, demanded_as, done_step, dummy_for, facts_with, judged_as, link_as, link_step, login_id, low_as, low_step, managed_by, orb_by, pinned_for, put_as, put_step, ring_for, with_running, put_lists, Demand, Purpose, InitiatorState, refusal, is_unwritten, no_marks, carried, pointing, sent}
+use Rattle.sbp_world.proofs.Words.Laws.{host_at, told_of, present_list, EachMoment, event_of}
+use Rattle.sbp_world.proofs.Words.World.{MayStand, is_answered, is_state, names_answered, own_action, state_list, pointed_list}
 use Rattle.sbp_journal.specs.declared.event.Action.TheVariants as actions
-use Rattle.sbp_journal.specs.declared.event.Cmd.{Cmd}
 use Rattle.sbp_journal.specs.declared.note.Note.TheVariants as notes
 use Rattle.sbp_journal.specs.declared.operation.Operation.TheVariants as operations
-use Rattle.sbp_initiator.specs.Acting.{act_step, append_step, asked_as, asked_for, demand_of, demanded_as, done_step, dummy_for, facts_with, judged_as, link_as, link_step, login_id, low_as, low_step, managed_by, orb_by, pinned_for, put_as, put_step, ring_for, with_running}
-use Rattle.sbp_initiator.specs.Commands.{put_lists}
-use Rattle.sbp_initiator.specs.declared.purpose.Demand.{Demand}
-use Rattle.sbp_initiator.specs.declared.purpose.Purpose.{Purpose}
-use Rattle.sbp_initiator.specs.declared.state.InitiatorState.{InitiatorState}
-use Rattle.sbp_initiator.specs.Refusals.{refusal}
-use Rattle.sbp_initiator.specs.States.{is_unwritten, no_marks}
-use Rattle.sbp_laws.specs.Hosts.{host_at, told_of}
-use Rattle.sbp_laws.specs.Lists.{present_list}
-use Rattle.sbp_laws.specs.Turns.{EachMoment, event_of}
-use Rattle.sbp_session.specs.Laws.{carried}
-use Rattle.sbp_session.specs.Moves.{pointing, sent}
 use Rattle.sbp_world.proofs.Hosts.PointerNotes.{pointer}
 use Rattle.sbp_world.proofs.Hosts.Remaining.{serials_behind}
-use Rattle.sbp_world.specs.Pointers.Moments.{MayStand, is_answered, is_state, names_answered, own_action, state_list}
-use Rattle.sbp_world.specs.Pointers.Pointers.{pointed_list}
 use Rattle.sbp_world.proofs.Pointers.Ages.{moment_closes}
 use Rattle.sbp_world.proofs.Pointers.BaseSeats.{kept_carried}
 use Rattle.sbp_world.proofs.Pointers.Naming.{Naming, none_some}

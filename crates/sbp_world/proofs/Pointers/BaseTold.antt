@@ -1,31 +1,18 @@
 -- What is told that refuses a logout, and that ends an operation; and what notes leave of the lists for which ORB_POINTER was written and of those that reads
 -- of AGENT_STATE tell of.
-use Rattle.std.proofs.Common.{arith, ◌≡◌, refl, sym, ◌∙◌, ap, subst, ℕ, zero, suc, ◌==◌, ◌&&◌, ◌||◌, nat_eq, not, Bool, true, false, cond, List, [], ◌∷◌, ◌++◌, Option, Some, None}
-use Rattle.std.proofs.lemmas.Bool.Decides.{nat_tests}
-use Rattle.std.proofs.lemmas.Bool.{not-true}
-use Rattle.sbp_bus.specs.Packets.{judged_note}
-use Rattle.sbp_journal.specs.Run.{Moment, said}
-use Rattle.sbp_journal.specs.declared.cause.Judged.{Judged}
+use Rattle.sbp_world.proofs.Words.Std.{arith, ◌≡◌, refl, sym, ◌∙◌, ap, subst, ℕ, zero, suc, ◌==◌, ◌&&◌, ◌||◌, nat_eq, not, Bool, true, false, cond, List, [], ◌∷◌, ◌++◌, Option, Some, None, nat_tests, not-true}
+use Rattle.sbp_world.proofs.Words.Wire.{judged_note, Moment, said, Judged, Event, Note, Operation, OpWord, Side}
+use Rattle.sbp_world.proofs.Words.Laws.{Host, Underway, host_at, op_ended, told_of, present_list, event_of}
+use Rattle.sbp_world.proofs.Words.World.{behind, AreUnrefused, is_refusal, is_state, names_answered, own_action, state_list, list_if, pointed_list}
 use Rattle.sbp_journal.specs.declared.cause.Judged.TheVariants as judgements
-use Rattle.sbp_journal.specs.declared.event.Event.{Event}
 use Rattle.sbp_journal.specs.declared.event.Event.TheVariants as events
-use Rattle.sbp_journal.specs.declared.note.Note.{Note}
 use Rattle.sbp_journal.specs.declared.note.Note.TheVariants as notes
-use Rattle.sbp_journal.specs.declared.operation.Operation.{Operation}
 use Rattle.sbp_journal.specs.declared.operation.Operation.TheVariants as operations
-use Rattle.sbp_journal.specs.declared.operation.OpWord.{OpWord}
-use Rattle.sbp_journal.specs.declared.side.Side.{Side}
 use Rattle.sbp_journal.specs.declared.side.Side.TheVariants as sides
-use Rattle.sbp_laws.specs.Hosts.{Host, Underway, host_at, is_serial, op_ended, told_of}
-use Rattle.sbp_laws.specs.Lists.{present_list}
-use Rattle.sbp_laws.specs.Turns.{event_of}
-use Rattle.sbp_world.specs.Hosts.Calls.{behind}
+use Rattle.sbp_laws.specs.Hosts.{is_serial}
 use Rattle.sbp_world.proofs.Hosts.Carries.{IsNoAct, is_apart}
 use Rattle.sbp_world.proofs.Hosts.Layered.{AreTame, is_tame}
 use Rattle.sbp_world.proofs.Hosts.PointerNotes.{pointer}
-use Rattle.sbp_world.specs.Pointers.Bases.{AreUnrefused, is_refusal}
-use Rattle.sbp_world.specs.Pointers.Moments.{is_state, names_answered, own_action, state_list}
-use Rattle.sbp_world.specs.Pointers.Pointers.{list_if, pointed_list}
 use Rattle.sbp_world.proofs.Pointers.Resetting.{told_fades}
 use Rattle.sbp_world.proofs.Pointers.Naming.{none_some}
 use Rattle.sbp_world.proofs.Pointers.Showing.{neither}

@@ -1,32 +1,14 @@
 -- What a delivery and a time-out leave of a session that has a list: it stays so, and carries the same response, where no logout is refused; and while the
 -- operation under way does not end, it carries the same response.
-use Rattle.std.proofs.Common.{arith, ◌≡◌, refl, sym, ◌∙◌, ap, subst, ℕ, nat_eq, is_some, Bool, true, false, cond, List, [], ◌∷◌, ◌++◌, Option, Some, None}
-use Rattle.std.proofs.lemmas.Bool.Decides.{nat_tests}
-use Rattle.async_packet.specs.Labels.{LabelParts}
-use Rattle.orb_list.specs.declared.list.PresentList.{PresentList}
-use Rattle.orb_list.specs.Lists.{ListState, drop_lists, unpin_lists}
-use Rattle.orb_list.specs.Table.{drop_for, drop_step}
-use Rattle.sbp_journal.specs.Outgoings.{OutboxState, empty_outbox}
-use Rattle.sbp_journal.specs.declared.note.Note.{Note}
+use Rattle.sbp_world.proofs.Words.Std.{arith, ◌≡◌, refl, sym, ◌∙◌, ap, subst, ℕ, nat_eq, is_some, Bool, true, false, cond, List, [], ◌∷◌, ◌++◌, Option, Some, None, nat_tests}
+use Rattle.sbp_world.proofs.Words.Wire.{LabelParts, OutboxState, empty_outbox, Note, Operation, OpWord, Side}
+use Rattle.sbp_world.proofs.Words.Initiator.{PresentList, ListState, drop_lists, unpin_lists, drop_for, drop_step, Running, InitiatorState, drop_list_step, drop_where, dropped_as, end_step, good_end, good_event, good_word, managed_step, moved, moves_session, response_of, then_step, expire_step, receive_step, ends_list, is_list, carried, Event, bad, goes, Seat}
+use Rattle.sbp_world.proofs.Words.World.{operation_by, session_in, work_in, is_refusal, is_seated}
 use Rattle.sbp_journal.specs.declared.note.Note.TheVariants as notes
-use Rattle.sbp_journal.specs.declared.operation.Operation.{Operation}
 use Rattle.sbp_journal.specs.declared.operation.Operation.TheVariants as operations
-use Rattle.sbp_journal.specs.declared.operation.OpWord.{OpWord}
 use Rattle.sbp_journal.specs.declared.operation.OpWord.TheVariants as words
-use Rattle.sbp_journal.specs.declared.side.Side.{Side}
 use Rattle.sbp_journal.specs.declared.side.Side.TheVariants as sides
-use Rattle.sbp_initiator.specs.declared.purpose.Running.{Running}
-use Rattle.sbp_initiator.specs.declared.state.InitiatorState.{InitiatorState}
-use Rattle.sbp_initiator.specs.Effects.{drop_list_step, drop_where, dropped_as, end_step, good_end, good_event, good_word, managed_step, moved, moves_session, response_of, then_step}
-use Rattle.sbp_initiator.specs.Receiving.{expire_step, receive_step}
-use Rattle.sbp_initiator.specs.Refusals.{ends_list}
-use Rattle.sbp_initiator.specs.States.{is_list}
-use Rattle.sbp_session.specs.Laws.{carried}
-use Rattle.sbp_session.specs.Moves.{Event, bad, goes}
-use Rattle.sbp_session.specs.declared.seat.Seat.{Seat}
-use Rattle.sbp_world.specs.Hosts.Core.{operation_by, session_in, work_in}
 use Rattle.sbp_world.proofs.Hosts.Knowing.{Sits}
-use Rattle.sbp_world.specs.Pointers.Bases.{is_refusal, is_seated}
 use Rattle.sbp_world.proofs.Pointers.BaseSeats.{is_logout, is_reset_seen, kept_carried, kept_seated, moved_stays}
 use Rattle.sbp_world.proofs.Pointers.BaseTold.{closes_of, front_unclosed, front_unrefused, is_end, last_unclosed, last_unrefused, refuses_of}
 use Rattle.sbp_world.proofs.Pointers.PendHears.{SameList}

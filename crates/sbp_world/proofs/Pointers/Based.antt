@@ -1,39 +1,19 @@
 -- In every run an initiator writes and reads at the registers of its session's agent.
-use Rattle.std.proofs.Common.{◌≡◌, refl, sym, ◌∙◌, ap, subst, ℕ, ◌+◌, ◌%◌, ◌^◌, ◌<◌, ◌&&◌, nat_lt, is_some, Bool, true, false, cond, length, List, [], ◌∷◌, ◌++◌, map, Option, Some, None}
-use Rattle.std.proofs.lemmas.Option.{same_Some}
-use Rattle.byteorder.specs.Endian.{big_bytes}
+use Rattle.sbp_world.proofs.Words.Std.{◌≡◌, refl, sym, ◌∙◌, ap, subst, ℕ, ◌+◌, ◌%◌, ◌^◌, ◌<◌, ◌&&◌, nat_lt, is_some, Bool, true, false, cond, length, List, [], ◌∷◌, ◌++◌, map, Option, Some, None, same_Some, big_bytes}
+use Rattle.sbp_world.proofs.Words.Wire.{Access, Moment, asked, said, Sending, terms}
+use Rattle.sbp_world.proofs.Words.Initiator.{start, PresentList, InitiatorState, new_state, is_list}
+use Rattle.sbp_world.proofs.Words.Laws.{new_host, ready_host, injectors, present_list, slot_at, access_in_bytes}
+use Rattle.sbp_world.proofs.Words.World.{history_of, after, beginning, after_all, begun, initiator_at, present_in, more_deliveries, IsHost, AreAtAgent, RegistersLaw, register_read, IsResetting, is_answered, pointer_write, register_write, state_list, PointersAt, pointed_list, IsOfWire}
 use Rattle.bus_memory.specs.declared.window.Window.TheVariants as windows
-use Rattle.bus_memory.specs.Windows.{start}
-use Rattle.orb_list.specs.declared.list.PresentList.{PresentList}
-use Rattle.sbp_journal.specs.Addresses.{Access}
-use Rattle.sbp_journal.specs.Run.{Moment, asked, said}
-use Rattle.sbp_journal.specs.Transactions.{Sending}
-use Rattle.sbp_journal.specs.Wire.{terms}
 use Rattle.sbp_journal.specs.declared.event.Event.TheVariants as events
 use Rattle.sbp_journal.specs.declared.note.Note.TheVariants as notes
-use Rattle.sbp_initiator.specs.declared.state.InitiatorState.{InitiatorState}
-use Rattle.sbp_initiator.specs.Initiators.{new_state}
-use Rattle.sbp_initiator.specs.States.{is_list}
-use Rattle.sbp_laws.specs.Hosts.{new_host, ready_host}
-use Rattle.sbp_laws.specs.Lawful.{injectors}
-use Rattle.sbp_laws.specs.Lists.{present_list, slot_at}
-use Rattle.sbp_laws.specs.Packets.{access_in_bytes}
-use Rattle.sbp_world.specs.Histories.{history_of}
-use Rattle.sbp_world.specs.Runs.{after, beginning}
-use Rattle.sbp_world.specs.Settling.{after_all}
-use Rattle.sbp_world.specs.Worlds.{begun, initiator_at}
 use Rattle.sbp_world.specs.Hosts.Refusing.{initiator_of}
-use Rattle.sbp_world.specs.Hosts.Rows.{present_in}
-use Rattle.sbp_world.specs.Hosts.Runs.{more_deliveries}
-use Rattle.sbp_world.specs.Hosts.Worlds.{IsHost}
 use Rattle.sbp_world.proofs.Hosts.Carried.{between_runs, of_runs}
 use Rattle.sbp_world.proofs.Hosts.Carries.{Carries}
 use Rattle.sbp_world.proofs.Hosts.Pointed.{stale_is}
 use Rattle.sbp_world.proofs.Hosts.PointerNotes.{Fit}
 use Rattle.sbp_world.proofs.Hosts.Runs.{run_law}
-use Rattle.sbp_world.specs.Pointers.Bases.{AreAtAgent, IsAsked, RegistersLaw, register_read}
-use Rattle.sbp_world.specs.Pointers.Moments.{IsResetting, is_answered, pointer_write, register_write, state_list}
-use Rattle.sbp_world.specs.Pointers.Pointers.{PointersAt, pointed_list}
+use Rattle.sbp_world.specs.Pointers.Bases.{IsAsked}
 use Rattle.sbp_world.proofs.Pointers.BaseActs.{does_based, present_is}
 use Rattle.sbp_world.proofs.Pointers.BaseSteps.{is_behind}
 use Rattle.sbp_world.proofs.Pointers.Basing.{Based, PointsAt, Requested, apart_based, asked_based, expires_based, hears_based, sees_based, sent_based}
@@ -42,7 +22,6 @@ use Rattle.sbp_world.proofs.Pointers.Guarding.{first_guarded, ready_known}
 use Rattle.sbp_world.proofs.Pointers.CalmRuns.{calm_between, calm_of_runs}
 use Rattle.sbp_world.proofs.Pointers.Calms.{AllCalm}
 use Rattle.sbp_world.proofs.Pointers.Proved.{between_wire, fair_of, not_closed, pointers_law, wire_of}
-use Rattle.sbp_world.specs.Wire.History.{IsOfWire}
 use Rattle.sbp_world.proofs.Common.{untrue}
 use Rattle.sbp_world.proofs.Pointers.Naming.{none_some}
 use Rattle.sbp_world.proofs.Agents.AskedPackets.{above}

@@ -1,31 +1,12 @@
 -- At whose registers an initiator writes and reads, as is carried on: as others tell and send something, and as it hears a packet, lets a transaction time out,
 -- and sees a generation.
-use Rattle.std.proofs.Common.{arith, ◌≡◌, refl, sym, ◌∙◌, ap, subst, ℕ, suc, ◌≤◌, ◌==◌, nat_eq, nat_lt, is_some, not, Bool, true, false, List, ◌∷◌, Option, Some, None}
-use Rattle.std.proofs.lemmas.Bool.Decides.{nat_tests}
-use Rattle.async_packet.specs.Labels.{LabelParts}
-use Rattle.label_table.specs.Layer.{expiring_step, judging_step, seeing_step}
-use Rattle.orb_layout.specs.declared.login.LoginResponse.{LoginResponse}
-use Rattle.orb_list.specs.declared.list.PresentList.{PresentList}
-use Rattle.sbp_bus.specs.Packets.{judged_note}
-use Rattle.sbp_journal.specs.Addresses.{Access}
-use Rattle.sbp_journal.specs.Outgoings.{empty_outbox}
-use Rattle.sbp_journal.specs.Run.{Moment, asked, said}
-use Rattle.sbp_journal.specs.Transactions.{Sending}
-use Rattle.sbp_journal.specs.Wire.{Terms, terms}
-use Rattle.sbp_journal.specs.declared.event.Event.{Event}
-use Rattle.sbp_journal.specs.declared.note.Note.{Note}
+use Rattle.sbp_world.proofs.Words.Std.{arith, ◌≡◌, refl, sym, ◌∙◌, ap, subst, ℕ, suc, ◌≤◌, ◌==◌, nat_eq, nat_lt, is_some, not, Bool, true, false, List, ◌∷◌, Option, Some, None, nat_tests}
+use Rattle.sbp_world.proofs.Words.Wire.{LabelParts, expiring_step, judging_step, seeing_step, judged_note, Access, empty_outbox, Moment, asked, said, Sending, Terms, terms, Event, Note, Side}
+use Rattle.sbp_world.proofs.Words.Initiator.{LoginResponse, PresentList, InitiatorState, Turn, expire_step, receive_step, see_step, is_list, carried}
+use Rattle.sbp_world.proofs.Words.Laws.{Host, host_at, known_host, access_in_bytes, event_of}
+use Rattle.sbp_world.proofs.Words.World.{behind, AreUnrefused, is_seated, register_read, IsResetting, pointer_write, register_write, state_list, pointed_list}
 use Rattle.sbp_journal.specs.declared.note.Note.TheVariants as notes
-use Rattle.sbp_journal.specs.declared.side.Side.{Side}
-use Rattle.sbp_initiator.specs.declared.state.InitiatorState.{InitiatorState}
-use Rattle.sbp_initiator.specs.Effects.{Turn}
-use Rattle.sbp_initiator.specs.Receiving.{expire_step, receive_step}
-use Rattle.sbp_initiator.specs.Seeing.{see_step}
-use Rattle.sbp_initiator.specs.States.{is_list}
-use Rattle.sbp_laws.specs.Hosts.{Host, host_at, known_host, reset_seen}
-use Rattle.sbp_laws.specs.Packets.{access_in_bytes}
-use Rattle.sbp_laws.specs.Turns.{event_of}
-use Rattle.sbp_session.specs.Laws.{carried}
-use Rattle.sbp_world.specs.Hosts.Calls.{behind}
+use Rattle.sbp_laws.specs.Hosts.{reset_seen}
 use Rattle.sbp_world.proofs.Hosts.Carries.{IsNoAct, Tells, is_apart}
 use Rattle.sbp_world.proofs.Hosts.Cores.{wire_is}
 use Rattle.sbp_world.proofs.Hosts.Held.{sent_count, sent_old}
@@ -33,9 +14,6 @@ use Rattle.sbp_world.proofs.Hosts.Layered.{AreTame, expire_left, receive_left}
 use Rattle.sbp_world.proofs.Hosts.PointSees.{see_left}
 use Rattle.sbp_world.proofs.Hosts.PointerNotes.{Fit, apart_passes, opens, sent_fades, tame_told, older}
 use Rattle.sbp_world.proofs.Hosts.Shown.{IsElsewhere, IsHeard, IsShown}
-use Rattle.sbp_world.specs.Pointers.Bases.{AreUnrefused, is_seated, register_read}
-use Rattle.sbp_world.specs.Pointers.Moments.{IsResetting, pointer_write, register_write, state_list}
-use Rattle.sbp_world.specs.Pointers.Pointers.{pointed_list}
 use Rattle.sbp_world.proofs.Pointers.BaseTold.{apart_pointed, closes_of, judged_pointed, judged_unrefused, pointed_told, refuses_of, sent_pointed, sent_state, unclosed_told, unrefused_told, so_none}
 use Rattle.sbp_world.proofs.Pointers.BaseWalks.{Keeps, expire_sits, expire_steady, receive_sits, receive_steady}
 use Rattle.sbp_world.proofs.Pointers.Guarded.{Guarded}

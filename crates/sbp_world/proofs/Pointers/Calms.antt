@@ -1,54 +1,22 @@
 -- A line of a world: a packet that an initiator sends in a line that is no action of it, and did not inject, asks for no write.
-use Rattle.std.proofs.Common.{arith, ◌≡◌, refl, sym, ap, subst, ℕ, suc, ◌+◌, ◌-◌, ◌<◌, ◌==◌, ◌||◌, not, nat_lt, Bool, true, false, cond, List, [], ◌∷◌, length, Option, Some, None, Result, Ok, Err}
-use Rattle.std.proofs.lemmas.Bool.Decides.{nat_tests}
-use Rattle.async_packet.specs.Labels.{LabelParts}
-use Rattle.label_table.specs.declared.reply.Stale.{Stale}
-use Rattle.packet_store.specs.declared.sent.Sent.{Sent}
-use Rattle.packet_store.specs.Kept.{found_sent, is_flying}
-use Rattle.packet_store.specs.Stored.{deliver_step}
-use Rattle.rbc_disk.specs.Held.{Held}
-use Rattle.rbc_disk.specs.Runs.{Told}
-use Rattle.sbp_journal.specs.Run.{Moment, said}
-use Rattle.sbp_journal.specs.Outgoings.{OutboxState, empty_outbox}
-use Rattle.sbp_journal.specs.Wire.{terms}
-use Rattle.sbp_journal.specs.declared.cause.Judged.{Judged}
+use Rattle.sbp_world.proofs.Words.Std.{arith, ◌≡◌, refl, sym, ap, subst, ℕ, suc, ◌+◌, ◌-◌, ◌<◌, ◌==◌, ◌||◌, not, nat_lt, Bool, true, false, cond, List, [], ◌∷◌, length, Option, Some, None, Result, Ok, Err, nat_tests}
+use Rattle.sbp_world.proofs.Words.Wire.{LabelParts, Stale, Sent, found_sent, is_flying, deliver_step, Moment, said, OutboxState, empty_outbox, terms, Judged, Action, Note, Outgoing, Side, Request, id_of, node_of, judged_note, find}
+use Rattle.sbp_world.proofs.Words.Target.{Held, Told, NodeState, scene, expired}
+use Rattle.sbp_world.proofs.Words.Initiator.{act_step, Turn, expire_step, receive_step, see_step}
+use Rattle.sbp_world.proofs.Words.Laws.{EachMoment, event_of}
+use Rattle.sbp_world.proofs.Words.World.{Arrival, MayAt, MayReceive, MayTold, arrived, at_none, at_target, delivered, delivered_by, initiator_received, initiators_received, listed, received_at, received_by, received_step, target_received, handed_out, acted, acted_by, weight_in, see_line, target_ticks, tick_line, world_expires, initiator_expires, refused, target_expired, target_left, timed_out, timeout_line, timeout_of, asked_at, posted, sent, sent_all, sent_to, told, told_all, Scene, WorldState, initiator_at, with_initiator, with_note, with_target, behind, AreNotes, AreOthers, IsOther, history}
 use Rattle.sbp_journal.specs.declared.cause.Judged.TheVariants as judgements
-use Rattle.sbp_journal.specs.declared.event.Action.{Action}
 use Rattle.sbp_journal.specs.declared.event.Event.TheVariants as events
-use Rattle.sbp_journal.specs.declared.note.Note.{Note}
 use Rattle.sbp_journal.specs.declared.note.Note.TheVariants as notes
-use Rattle.sbp_journal.specs.declared.outbox.Outgoing.{Outgoing}
-use Rattle.sbp_journal.specs.declared.side.Side.{Side}
 use Rattle.sbp_journal.specs.declared.side.Side.TheVariants as sides
-use Rattle.sbp_initiator.specs.Acting.{act_step}
-use Rattle.sbp_initiator.specs.Effects.{Turn}
-use Rattle.sbp_initiator.specs.Receiving.{expire_step, receive_step}
-use Rattle.sbp_initiator.specs.Seeing.{see_step}
-use Rattle.sbp_target.specs.Nodes.{NodeState, scene}
 use Rattle.sbp_target.specs.Nodes as target
-use Rattle.sbp_target.specs.Receiving.{expired}
-use Rattle.sbp_bus.specs.declared.requests.Request.{Request}
-use Rattle.sbp_bus.specs.Generations.{id_of, node_of}
-use Rattle.sbp_bus.specs.Packets.{judged_note}
-use Rattle.sbp_bus.specs.Requests.{find}
-use Rattle.sbp_laws.specs.Turns.{EachMoment, event_of}
-use Rattle.sbp_world.specs.declared.parts.delivering.Arrival.{Arrival}
-use Rattle.sbp_world.specs.Delivering.{MayAt, MayReceive, MayTold, arrived, at_initiator, at_none, at_target, delivered, delivered_by, initiator_received, initiators_received, listed, received_at, received_by, received_step, target_received}
-use Rattle.sbp_world.specs.Handing.{handed_out}
-use Rattle.sbp_world.specs.Lines.{acted, acted_by, weight_in}
-use Rattle.sbp_world.specs.Nodes.{see_line, target_ticks, tick_line}
+use Rattle.sbp_world.specs.Delivering.{at_initiator}
 use Rattle.sbp_world.specs.Nodes as nodes
-use Rattle.sbp_world.specs.Packets.{expires as world_expires, initiator_expires, refused, target_expired, target_left, timed_out, timeout_line, timeout_of}
 use Rattle.sbp_world.specs.Packets as packets
-use Rattle.sbp_world.specs.Sending.{asked as asked_at, posted, sent, sent_all, sent_to}
-use Rattle.sbp_world.specs.Telling.{told, told_all}
-use Rattle.sbp_world.specs.Worlds.{Scene, WorldState, initiator_at, with_initiator, with_note, with_target}
 use Rattle.sbp_world.proofs.FitInitiator.Law.{fitting_law as own_fitting_law}
 use Rattle.sbp_world.proofs.InitiatorForms as initiators
 use Rattle.sbp_world.proofs.Wire.Hears.{ours}
 use Rattle.sbp_world.proofs.Wire.Holding.{Sound, own_has, target_small}
-use Rattle.sbp_world.specs.Hosts.Calls.{behind}
-use Rattle.sbp_world.specs.Hosts.Handing.{AreNotes, AreOthers, IsOther, history}
 use Rattle.sbp_world.proofs.Hosts.ActLeft.{act_left}
 use Rattle.sbp_world.proofs.Hosts.Carries.{IsNoAct}
 use Rattle.sbp_world.proofs.Hosts.Hands.{all_own, second_tells, sight_tells, target_tells, line_stays as line_same}

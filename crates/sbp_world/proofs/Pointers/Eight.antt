@@ -1,10 +1,6 @@
 -- The pointer that the 8 bytes of an address below 2^32 spell.
-use Rattle.std.proofs.Common.{arith, ◌≡◌, ap, ℕ, ◌/◌, ◌<◌, ◌^◌, ◌==◌, false}
-use Rattle.std.proofs.lemmas.Bool.Decides.{nat_tests}
-use Rattle.byteorder.specs.Endian.{big_bytes}
-use Rattle.orb_layout.specs.declared.pointer.OrbPointer.TheVariants.{At}
-use Rattle.orb_layout.specs.Pointers.{offset_at, pointer_at}
-use Rattle.sbp_base.specs.Quadlets.{quad}
+use Rattle.sbp_world.proofs.Words.Std.{arith, ◌≡◌, ap, ℕ, ◌/◌, ◌<◌, ◌^◌, ◌==◌, false, nat_tests, big_bytes, quad}
+use Rattle.sbp_world.proofs.Words.Initiator.{At, offset_at, pointer_at}
 
 pub eight_pointer : (x : ℕ) → x < 2 ^ 32 → pointer_at (big_bytes 8 x) 0 ≡ At x
 eight_pointer x small =

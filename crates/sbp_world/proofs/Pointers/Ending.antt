@@ -1,42 +1,19 @@
 -- Why a delivery drops a list.
-use Rattle.std.proofs.Common.{arith, ◌≡◌, refl, sym, ◌∙◌, ap, subst, ℕ, suc, ◌==◌, ◌&&◌, Bool, true, false, List, ◌∷◌, Option, Some, None, Result, Ok, Err}
-use Rattle.std.proofs.lemmas.Bool.Decides.{nat_tests}
-use Rattle.async_packet.specs.Labels.{LabelParts}
-use Rattle.async_packet.specs.Packet.{Packet, header_in}
-use Rattle.async_packet.specs.Reading.{reading}
-use Rattle.async_packet.specs.declared.fault.PacketFault.{PacketFault}
-use Rattle.label_table.specs.Layer.{Layer, Finding, of_again, of_generation, of_grammar, of_label, of_request, of_response, facts_of, judged_by, judging_step, responded}
-use Rattle.label_table.specs.Judging.{Row, by_again, by_generation, by_grammar, by_label, by_request, by_response, row_of}
-use Rattle.orb_list.specs.declared.list.PresentList.{PresentList}
-use Rattle.sbp_journal.specs.Outgoings.{empty_outbox}
-use Rattle.sbp_journal.specs.Run.{Moment, said}
-use Rattle.sbp_journal.specs.Transactions.{Transaction}
-use Rattle.sbp_journal.specs.Wire.{terms, waits}
-use Rattle.bus_transactions.specs.Rows.{kind_as, shape_of}
-use Rattle.bus_transactions.specs.Wire.{transaction}
-use Rattle.sbp_journal.specs.declared.event.Action.{Action}
+use Rattle.sbp_world.proofs.Words.Std.{arith, ◌≡◌, refl, sym, ◌∙◌, ap, subst, ℕ, suc, ◌==◌, ◌&&◌, Bool, true, false, List, ◌∷◌, Option, Some, None, Result, Ok, Err, nat_tests}
+use Rattle.sbp_world.proofs.Words.Wire.{LabelParts, Packet, header_in, reading, PacketFault, Layer, Finding, of_again, of_generation, of_grammar, of_label, of_request, of_response, facts_of, judged_by, judging_step, responded, Row, by_again, by_generation, by_grammar, by_label, by_request, by_response, row_of, empty_outbox, Moment, said, Transaction, terms, waits, kind_as, shape_of, transaction, Action, purpose_for, state_for, Judged, judged_note}
+use Rattle.sbp_world.proofs.Words.Initiator.{PresentList, Ending, Purpose, InitiatorState, receive_step, received, ends_list, counts_for, ending_of, is_list, operation_in, ends_the_list, state_drops}
+use Rattle.sbp_world.proofs.Words.World.{Answers, MayEnd, by_reset, by_state, by_status, is_cutting, turn_of}
 use Rattle.sbp_journal.specs.declared.event.Action.TheVariants as actions
 use Rattle.sbp_world.proofs.Wire.Deliver.{judging_stays}
-use Rattle.label_table.specs.Peers.{purpose_for, state_for}
-use Rattle.sbp_journal.specs.declared.cause.Judged.{Judged}
 use Rattle.sbp_journal.specs.declared.cause.Judged.TheVariants as judgements
-use Rattle.sbp_initiator.specs.declared.purpose.Ending.{Ending}
 use Rattle.sbp_initiator.specs.declared.purpose.Ending.TheVariants as endings
-use Rattle.sbp_initiator.specs.declared.purpose.Purpose.{Purpose}
 use Rattle.sbp_initiator.specs.declared.purpose.Purpose.TheVariants as purposes
-use Rattle.sbp_initiator.specs.declared.state.InitiatorState.{InitiatorState}
-use Rattle.sbp_initiator.specs.Receiving.{receive_step, received}
-use Rattle.sbp_initiator.specs.Refusals.{ends_list}
-use Rattle.sbp_initiator.specs.States.{counts_for, ending_of, is_list, operation_in}
-use Rattle.sbp_bus.specs.Packets.{judged_note}
-use Rattle.sbp_initiator.specs.Histories.Drops.{ends_the_list, state_drops}
 use Rattle.sbp_world.proofs.Hosts.Aimed.{Aims}
 use Rattle.sbp_world.proofs.Hosts.Hosted.{Cored}
 use Rattle.sbp_world.proofs.Hosts.Lives.{At}
 use Rattle.sbp_world.proofs.Hosts.Cores.{got_told}
 use Rattle.sbp_world.proofs.Hosts.Pointing.{called_of, pointing_of, under_way_now}
 use Rattle.sbp_world.proofs.Hosts.Shown.{IsHeard, IsShown}
-use Rattle.sbp_world.specs.Pointers.Moments.{Answers, MayEnd, by_reset, by_state, by_status, is_cutting, turn_of}
 use Rattle.sbp_world.proofs.Pointers.Ages.{got_closes}
 use Rattle.sbp_world.proofs.Pointers.Waits.{AskedFor, Asks, is_cared}
 use Rattle.sbp_world.proofs.Pointers.Dropping.{drops_of, may_drop, receive_drops}

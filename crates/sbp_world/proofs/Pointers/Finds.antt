@@ -1,26 +1,13 @@
 -- What is known of a transaction of an initiator that a response closes, or that times out.
-use Rattle.std.proofs.Common.{◌≡◌, refl, sym, ◌∙◌, ap, subst, ℕ, is_some, Bool, true, false, cond, List, ◌∷◌, Option, Some, None, Result, Ok, Err}
-use Rattle.async_packet.specs.Labels.{LabelParts}
-use Rattle.async_packet.specs.Packet.{Packet, header_in}
+use Rattle.sbp_world.proofs.Words.Std.{◌≡◌, refl, sym, ◌∙◌, ap, subst, ℕ, is_some, Bool, true, false, cond, List, ◌∷◌, Option, Some, None, Result, Ok, Err}
+use Rattle.sbp_world.proofs.Words.Wire.{LabelParts, Packet, header_in, ReplyKind, Stale, Finding, Layer, expiring_step, judging_step, of_again, of_generation, of_grammar, of_label, of_request, of_response, IsFor, Life, Told, and_before, ended, expired, lets_expire, life, not_begun, over, told_by_expiring, told_by_finding, told_closed, under_way, state_for, reply_kind, Operation}
+use Rattle.sbp_world.proofs.Words.Initiator.{Pointing, Purpose, Running, InitiatorState, ends_list, is_answered, is_unwritten, operation_in, IsReset, PointingAfter, UnderWay}
 use Rattle.label_table.specs.declared.place.LabelState.TheVariants as states
-use Rattle.label_table.specs.declared.reply.ReplyKind.{ReplyKind}
-use Rattle.label_table.specs.declared.reply.Stale.{Stale}
-use Rattle.label_table.specs.Layer.{Finding, Layer, expiring_step, judging_step, of_again, of_generation, of_grammar, of_label, of_request, of_response}
-use Rattle.label_table.specs.History.{IsFor, Life, Told, and_before, ended, expired, is_same, judges, lets_expire, life, not_begun, over, told_by_expiring, told_by_finding, told_closed, under_way}
+use Rattle.label_table.specs.History.{is_same, judges}
 use Rattle.label_table.specs.History as wire
-use Rattle.label_table.specs.Peers.{state_for}
-use Rattle.label_table.specs.Requests.{reply_kind}
 use Rattle.label_table.proofs.Calls.{after_kept, told_law}
-use Rattle.sbp_journal.specs.declared.operation.Operation.{Operation}
-use Rattle.sbp_initiator.specs.declared.purpose.Pointing.{Pointing}
 use Rattle.sbp_initiator.specs.declared.purpose.Pointing.TheVariants as pointings
-use Rattle.sbp_initiator.specs.declared.purpose.Purpose.{Purpose}
 use Rattle.sbp_initiator.specs.declared.purpose.Purpose.TheVariants as purposes
-use Rattle.sbp_initiator.specs.declared.purpose.Running.{Running}
-use Rattle.sbp_initiator.specs.declared.state.InitiatorState.{InitiatorState}
-use Rattle.sbp_initiator.specs.Refusals.{ends_list}
-use Rattle.sbp_initiator.specs.States.{is_answered, is_unwritten, operation_in}
-use Rattle.sbp_initiator.specs.Histories.Pointing.{IsReset, PointingAfter, UnderWay}
 use Rattle.sbp_initiator.proofs.Histories.Lives.{of_same}
 use Rattle.sbp_initiator.proofs.Histories.Purposes.{kind_in}
 use Rattle.sbp_world.proofs.Hosts.Lives.{At, Called, at_life}

@@ -1,36 +1,16 @@
 -- What an action leaves of the history that an initiator is guarded by, before its request.
-use Rattle.std.proofs.Common.{arith, ◌≡◌, refl, sym, ◌∙◌, ap, subst, ℕ, ◌+◌, ◌<◌, nat_eq, is_some, unwrap_or, Bool, true, false, cond, List, ◌∷◌, length, Option, Some, None, Result, Ok, Err}
-use Rattle.std.proofs.lemmas.Bool.Decides.{nat_tests}
-use Rattle.std.proofs.lemmas.List.Quantifiers.{position-Some}
-use Rattle.orb_list.specs.declared.fault.ListFault.{ListFault}
-use Rattle.orb_list.specs.declared.list.PresentList.{PresentList}
-use Rattle.orb_list.specs.Table.{is_free, list_number, may_prepare, orb_number, unused}
+use Rattle.sbp_world.proofs.Words.Std.{arith, ◌≡◌, refl, sym, ◌∙◌, ap, subst, ℕ, ◌+◌, ◌<◌, nat_eq, is_some, Bool, true, false, cond, List, ◌∷◌, length, Option, Some, None, Result, Ok, Err, nat_tests, position-Some}
+use Rattle.sbp_world.proofs.Words.Wire.{Moment, said, terms, Action, Note, NoteBuffer}
+use Rattle.sbp_world.proofs.Words.Initiator.{ListFault, PresentList, is_free, list_number, may_prepare, orb_number, unused, InitiatorState, first_in, ends_list, is_list_step, prepares, rings, is_list, operation_in, own}
+use Rattle.sbp_world.proofs.Words.Laws.{action_notes, cuts_list, new_list, new_number, running_operation, Host, Underway, host_at, lowest_vacant, present_list, slot_at, slots, event_of}
+use Rattle.sbp_world.proofs.Words.World.{behind, Core, host_core, operation_by, own_core, work_in, work_of, AreRows, ReadAs, present_in, MayAppend, is_cutting}
+use Rattle.std.proofs.Common.{unwrap_or}
 use Rattle.orb_list.proofs.Tied.{may_lowest}
-use Rattle.sbp_journal.specs.Run.{Moment, said}
-use Rattle.sbp_journal.specs.Wire.{terms}
-use Rattle.sbp_journal.specs.declared.event.Action.{Action}
-use Rattle.sbp_journal.specs.declared.note.Note.{Note}
 use Rattle.sbp_journal.specs.declared.note.Note.TheVariants as notes
-use Rattle.sbp_journal.specs.declared.note.NoteBuffer.{NoteBuffer}
 use Rattle.sbp_journal.specs.declared.operation.Operation.TheVariants as operations
-use Rattle.sbp_initiator.specs.declared.state.InitiatorState.{InitiatorState}
-use Rattle.sbp_initiator.specs.Acting.{first_in}
-use Rattle.sbp_initiator.specs.Refusals.{ends_list, is_list_step, prepares, rings}
-use Rattle.sbp_initiator.specs.States.{is_list, operation_in}
-use Rattle.sbp_laws.specs.Actions.{action_notes, cuts_list, new_list, new_number, running_operation}
-use Rattle.sbp_laws.specs.Hosts.{Host, Underway, host_at}
-use Rattle.sbp_laws.specs.Lists.{lowest_vacant, present_list, slot_at, slots}
-use Rattle.sbp_laws.specs.Turns.{event_of}
-use Rattle.sbp_initiator.specs.Histories.Ends.{own}
 use Rattle.sbp_initiator.proofs.Histories.Actions.{Allowed, is_ok}
-use Rattle.sbp_world.specs.Hosts.Calls.{behind}
-use Rattle.sbp_world.specs.Hosts.Core.{Core, host_core, operation_by, own_core, work_in, work_of}
-use Rattle.sbp_world.specs.Hosts.Fits.{AreRows}
-use Rattle.sbp_world.specs.Hosts.Reading.{ReadAs}
-use Rattle.sbp_world.specs.Hosts.Rows.{present_in}
 use Rattle.sbp_world.proofs.Hosts.Appends.{lowest_is}
 use Rattle.sbp_world.proofs.Hosts.Readings.{read_law}
-use Rattle.sbp_world.specs.Pointers.Moments.{MayAppend, is_cutting}
 use Rattle.sbp_world.proofs.Pointers.Guarded.{firsts}
 use Rattle.sbp_world.proofs.Pointers.Passing.{Stand}
 use Rattle.sbp_world.proofs.Pointers.PendActs.{Places}

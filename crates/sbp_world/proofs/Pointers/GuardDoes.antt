@@ -1,46 +1,15 @@
 -- What is carried on of an initiator, as it does an action.
-use Rattle.std.specs.Prelude.{unwrap_or}
-use Rattle.std.proofs.Common.{arith, ◌≡◌, ◌⊎◌, inl, inr, refl, sym, ◌∙◌, ap, subst, ℕ, suc, ◌+◌, ◌≤◌, ◌==◌, nat_eq, is_some, not, Bool, true, false, cond, List, [], ◌∷◌, Option, Some, None}
-use Rattle.std.proofs.lemmas.Bool.Decides.{nat_tests}
-use Rattle.bus_transactions.specs.Wire.{transaction}
+use Rattle.sbp_world.proofs.Words.Std.{unwrap_or, arith, ◌≡◌, ◌⊎◌, inl, inr, refl, sym, ◌∙◌, ap, subst, ℕ, suc, ◌+◌, ◌≤◌, ◌==◌, nat_eq, is_some, not, Bool, true, false, cond, List, [], ◌∷◌, Option, Some, None, nat_tests}
+use Rattle.sbp_world.proofs.Words.Wire.{transaction, Asked, header_to, request_with, Layer, Access, access_of, empty_outbox, Moment, said, Sending, Terms, terms, Action, Outgoing}
+use Rattle.sbp_world.proofs.Words.Initiator.{start, PresentList, response_in, Demand, Pointing, Purpose, Wanted, InitiatorState, act_step, asked_for, counted_list, demand_of, ring_demand, Turn, is_in_live, rings, is_answered, is_list, is_unwritten, place_of, session_of, wanted_body, own, acts}
+use Rattle.sbp_world.proofs.Words.Laws.{action_notes, cuts_list, running_operation, host_at, live, operation_of, present_list, access_in_bytes, event_of}
+use Rattle.sbp_world.proofs.Words.World.{Pins, behind, Core, AreRows, MayPoint, is_answered_at, names_answered, MaySend, MayWrite, NonePoints, pointer_write, writes_bell, writes_enable, writes_management, writes_pointer, writes_reset}
 use Rattle.bus_memory.specs.declared.window.Window.TheVariants as windows
-use Rattle.bus_memory.specs.Windows.{start}
-use Rattle.label_table.specs.declared.judgement.Asked.{Asked}
-use Rattle.label_table.specs.Bodies.{header_to, request_with}
-use Rattle.label_table.specs.Layer.{Layer}
-use Rattle.orb_list.specs.declared.list.PresentList.{PresentList}
-use Rattle.sbp_journal.specs.Addresses.{Access, access_of}
-use Rattle.sbp_journal.specs.Outgoings.{empty_outbox}
-use Rattle.sbp_journal.specs.Run.{Moment, said}
-use Rattle.sbp_journal.specs.Transactions.{Sending}
-use Rattle.sbp_journal.specs.Wire.{Terms, terms}
-use Rattle.sbp_journal.specs.declared.event.Action.{Action}
 use Rattle.sbp_journal.specs.declared.event.Event.TheVariants as events
 use Rattle.sbp_journal.specs.declared.note.Note.TheVariants as notes
-use Rattle.sbp_journal.specs.declared.outbox.Outgoing.{Outgoing}
-use Rattle.sbp_session.specs.Seats.{response_in}
-use Rattle.sbp_initiator.specs.declared.purpose.Demand.{Demand}
-use Rattle.sbp_initiator.specs.declared.purpose.Pointing.{Pointing}
 use Rattle.sbp_initiator.specs.declared.purpose.Pointing.TheVariants as pointings
-use Rattle.sbp_initiator.specs.declared.purpose.Purpose.{Purpose}
-use Rattle.sbp_initiator.specs.declared.purpose.Wanted.{Wanted}
-use Rattle.sbp_initiator.specs.declared.state.InitiatorState.{InitiatorState}
-use Rattle.sbp_initiator.specs.Acting.{act_step, asked_for, counted_list, demand_of, ring_demand}
-use Rattle.sbp_initiator.specs.Effects.{Turn}
-use Rattle.sbp_initiator.specs.Refusals.{is_in_live, rings}
-use Rattle.sbp_initiator.specs.States.{is_answered, is_list, is_unwritten, place_of, session_of, wanted_body}
-use Rattle.sbp_laws.specs.Actions.{action_notes, cuts_list, running_operation}
-use Rattle.sbp_laws.specs.Hosts.{host_at, live, operation_of}
-use Rattle.sbp_laws.specs.Lists.{present_list}
-use Rattle.sbp_laws.specs.Packets.{access_in_bytes}
-use Rattle.sbp_laws.specs.Turns.{event_of}
-use Rattle.sbp_initiator.specs.Histories.Ends.{own}
-use Rattle.sbp_initiator.specs.Histories.Laws.{acts}
 use Rattle.sbp_initiator.proofs.Histories.Actions.{Allowed}
 use Rattle.sbp_initiator.proofs.Histories.Effects.{HasMarks}
-use Rattle.sbp_world.specs.Hosts.Calls.{Pins, behind}
-use Rattle.sbp_world.specs.Hosts.Core.{Core}
-use Rattle.sbp_world.specs.Hosts.Fits.{AreRows}
 use Rattle.sbp_world.proofs.Hosts.ActLeft.{ActLeft, act_left}
 use Rattle.sbp_world.proofs.Hosts.Aimed.{aimed_carried}
 use Rattle.sbp_world.proofs.Hosts.Asked.{IsRequest, number_in}
@@ -53,7 +22,6 @@ use Rattle.sbp_world.proofs.Hosts.PointerNotes.{Fit, asked_pointer, pointer, poi
 use Rattle.sbp_world.proofs.Hosts.Pointing.{asked_generation, called_of, wrote_is}
 use Rattle.sbp_world.proofs.Hosts.Shown.{IsShown}
 use Rattle.sbp_world.proofs.Hosts.Telling.{action_law}
-use Rattle.sbp_world.specs.Pointers.Moments.{MayPoint, is_answered as is_answered_at, names_answered, MaySend, MayWrite, NonePoints, pointer_write, writes_bell, writes_enable, writes_management, writes_pointer, writes_reset}
 use Rattle.sbp_world.proofs.Pointers.Ages.{moment_closes, moment_generation}
 use Rattle.sbp_world.proofs.Pointers.Asks.{Asking, Cutting, act_allowed, act_bytes, asked_write, asks_enable, asks_for, asks_management, asks_reset, asks_ring, cutting, live_session, ring_list, ring_rings, ring_wanted, ringing}
 use Rattle.sbp_world.proofs.Pointers.GuardActs.{Told, action_told, cutting_is, none_underway}

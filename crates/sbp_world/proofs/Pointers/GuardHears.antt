@@ -1,24 +1,12 @@
 -- What is carried on of an initiator, as it hears a packet, lets a transaction time out, and sees a generation.
-use Rattle.std.proofs.Common.{◌≡◌, refl, sym, ◌∙◌, ap, subst, ℕ, nat_lt, is_some, Bool, true, false, cond, List, [], ◌∷◌}
-use Rattle.async_packet.specs.Labels.{LabelParts}
-use Rattle.label_table.specs.Layer.{Layer, expiring_step, judging_step, seeing_step, seen_in_generation}
-use Rattle.sbp_bus.specs.Packets.{judged_note}
-use Rattle.sbp_journal.specs.Outgoings.{empty_outbox}
-use Rattle.sbp_journal.specs.Run.{Moment, said}
+use Rattle.sbp_world.proofs.Words.Std.{◌≡◌, refl, sym, ◌∙◌, ap, subst, ℕ, nat_lt, is_some, Bool, true, false, cond, List, [], ◌∷◌}
+use Rattle.sbp_world.proofs.Words.Wire.{LabelParts, Layer, expiring_step, judging_step, seeing_step, seen_in_generation, judged_note, empty_outbox, Moment, said}
+use Rattle.sbp_world.proofs.Words.Initiator.{Purpose, InitiatorState, Turn, expire_step, receive_step, interrupted, resets_told, see_step, seen_as, is_answered, is_unwritten, Call, IsCall, after, done, lets_expire, receives, answered_after, call_answers, known_if, loses_list}
+use Rattle.sbp_world.proofs.Words.World.{IsCalled, behind, MayDrop, MayEnd, NonePoints, turn_of}
 use Rattle.sbp_journal.specs.declared.cause.Judged.TheVariants as judgements
 use Rattle.sbp_journal.specs.declared.note.Note.TheVariants as notes
-use Rattle.sbp_initiator.specs.declared.purpose.Purpose.{Purpose}
-use Rattle.sbp_initiator.specs.declared.state.InitiatorState.{InitiatorState}
-use Rattle.sbp_initiator.specs.Effects.{Turn}
-use Rattle.sbp_initiator.specs.Receiving.{expire_step, receive_step}
-use Rattle.sbp_initiator.specs.Seeing.{interrupted, resets_told, see_step, seen_as}
-use Rattle.sbp_initiator.specs.States.{is_answered, is_unwritten}
-use Rattle.sbp_initiator.specs.Histories.Laws.{Call, IsCall, after, done, lets_expire, receives}
-use Rattle.sbp_initiator.specs.Histories.Marks.{answered_after, call_answers, known_if, loses_list}
 use Rattle.sbp_initiator.proofs.Histories.Effects.{list_drops}
 use Rattle.sbp_initiator.proofs.Histories.Known.{mark_law}
-use Rattle.sbp_world.specs.Hosts.Calling.{IsCalled}
-use Rattle.sbp_world.specs.Hosts.Calls.{behind}
 use Rattle.sbp_world.proofs.Hosts.Aimed.{aimed_carried}
 use Rattle.sbp_world.proofs.Hosts.Alone.{call_same}
 use Rattle.sbp_world.proofs.Hosts.Carries.{Tells}
@@ -32,7 +20,6 @@ use Rattle.sbp_world.proofs.Hosts.Pointed.{Pointed, expired_called, judged_calle
 use Rattle.sbp_world.proofs.Hosts.PointerNotes.{Fit, pointer, tame_told}
 use Rattle.sbp_world.proofs.Hosts.Pointing.{called_of, pointing_of, wrote_is}
 use Rattle.sbp_world.proofs.Hosts.Shown.{IsHeard, IsShown}
-use Rattle.sbp_world.specs.Pointers.Moments.{MayDrop, MayEnd, NonePoints, turn_of}
 use Rattle.sbp_world.proofs.Pointers.Dropping.{drops_of, expire_drops, receive_drops}
 use Rattle.sbp_world.proofs.Pointers.Ending.{heard_ends, other_number}
 use Rattle.sbp_world.proofs.Pointers.Finds.{alone, if_closed, if_expired, is_pended, loosened, stayed}

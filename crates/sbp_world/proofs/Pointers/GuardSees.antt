@@ -1,16 +1,9 @@
 -- What is carried on of an initiator, as it sees a generation.
-use Rattle.std.proofs.Common.{arith, ◌≡◌, refl, sym, ◌∙◌, ap, ℕ, suc, ◌<◌, ◌==◌, nat_lt, is_some, not, Bool, true, false, List, [], ◌∷◌}
-use Rattle.std.proofs.lemmas.Bool.Decides.{nat_tests}
-use Rattle.label_table.specs.Layer.{seeing_step}
-use Rattle.sbp_journal.specs.Outgoings.{empty_outbox}
-use Rattle.sbp_journal.specs.Run.{Moment, said}
-use Rattle.sbp_journal.specs.Wire.{terms}
+use Rattle.sbp_world.proofs.Words.Std.{arith, ◌≡◌, refl, sym, ◌∙◌, ap, ℕ, suc, ◌<◌, ◌==◌, nat_lt, is_some, not, Bool, true, false, List, [], ◌∷◌, nat_tests}
+use Rattle.sbp_world.proofs.Words.Wire.{seeing_step, empty_outbox, Moment, said, terms}
+use Rattle.sbp_world.proofs.Words.Initiator.{InitiatorState, Turn, see_step, is_answered, is_unwritten}
+use Rattle.sbp_world.proofs.Words.World.{behind, MayDrop, by_sight}
 use Rattle.sbp_journal.specs.declared.note.Note.TheVariants as notes
-use Rattle.sbp_initiator.specs.declared.state.InitiatorState.{InitiatorState}
-use Rattle.sbp_initiator.specs.Effects.{Turn}
-use Rattle.sbp_initiator.specs.Seeing.{see_step}
-use Rattle.sbp_initiator.specs.States.{is_answered, is_unwritten}
-use Rattle.sbp_world.specs.Hosts.Calls.{behind}
 use Rattle.sbp_world.proofs.Hosts.Aimed.{aimed_carried}
 use Rattle.sbp_world.proofs.Hosts.Carries.{Tells}
 use Rattle.sbp_world.proofs.Hosts.Layered.{AreTame}
@@ -20,7 +13,6 @@ use Rattle.sbp_world.proofs.Hosts.Pointed.{Pointed, pointed_carried}
 use Rattle.sbp_world.proofs.Hosts.PointerNotes.{Fit, pointer, seen_fades_now, tame_told}
 use Rattle.sbp_world.proofs.Hosts.PointSees.{see_left}
 use Rattle.sbp_world.proofs.Hosts.Pointing.{wrote_is}
-use Rattle.sbp_world.specs.Pointers.Moments.{MayDrop, by_sight}
 use Rattle.sbp_world.proofs.Pointers.Ages.{moment_closes, seen_now}
 use Rattle.sbp_world.proofs.Pointers.GuardHears.{SawAs, anew, as_before, saw}
 use Rattle.sbp_world.proofs.Pointers.Dropping.{drops_of, see_drops}

@@ -1,35 +1,17 @@
 -- What is carried on of each initiator of a run: its marks, the ORB_POINTER write that its host names, and what it told; as others tell something, and
 -- as it hears a packet, lets a transaction time out, and sees a generation.
-use Rattle.std.proofs.Common.{◌≡◌, refl, sym, ◌∙◌, ap, subst, ℕ, suc, ◌+◌, is_some, not, Bool, true, false, List, ◌∷◌, Option, Some, None}
-use Rattle.async_packet.specs.Labels.{LabelParts}
-use Rattle.async_packet.specs.Packet.{Packet, header_in}
-use Rattle.bus_transactions.specs.Rows.{kind_as, shape_of}
-use Rattle.bus_transactions.specs.Wire.{transaction}
-use Rattle.label_table.specs.Layer.{Finding, Layer, judging_step, of_again, of_generation, of_grammar, of_label, of_request, of_response}
-use Rattle.label_table.specs.Peers.{purpose_for, state_for}
-use Rattle.orb_list.specs.declared.list.PresentList.{PresentList}
-use Rattle.sbp_bus.specs.Packets.{judged_note}
-use Rattle.sbp_journal.specs.Outgoings.{empty_outbox}
-use Rattle.sbp_journal.specs.Run.{Moment, said}
-use Rattle.sbp_journal.specs.Transactions.{Kind, Transaction}
-use Rattle.sbp_journal.specs.Wire.{Terms, terms, waits}
+use Rattle.sbp_world.proofs.Words.Std.{◌≡◌, refl, sym, ◌∙◌, ap, subst, ℕ, suc, ◌+◌, is_some, not, Bool, true, false, List, ◌∷◌, Option, Some, None}
+use Rattle.sbp_world.proofs.Words.Wire.{LabelParts, Packet, header_in, kind_as, shape_of, transaction, Finding, Layer, judging_step, of_again, of_generation, of_grammar, of_label, of_request, of_response, purpose_for, state_for, judged_note, empty_outbox, Moment, said, Kind, Transaction, Terms, terms, waits, Side}
+use Rattle.sbp_world.proofs.Words.Initiator.{PresentList, Ending, Pointing, Purpose, InitiatorState, receive_step, received, ending_of, is_answered, is_unwritten, answers_pointer, finding_answers}
+use Rattle.sbp_world.proofs.Words.Laws.{slot_at}
+use Rattle.sbp_world.proofs.Words.World.{behind, NonePoints}
 use Rattle.sbp_journal.specs.declared.cause.Judged.TheVariants as judgements
 use Rattle.sbp_journal.specs.declared.note.Note.TheVariants as notes
-use Rattle.sbp_journal.specs.declared.side.Side.{Side}
-use Rattle.sbp_initiator.specs.declared.purpose.Ending.{Ending}
-use Rattle.sbp_initiator.specs.declared.purpose.Pointing.{Pointing}
 use Rattle.sbp_initiator.specs.declared.purpose.Pointing.TheVariants as pointings
-use Rattle.sbp_initiator.specs.declared.purpose.Purpose.{Purpose}
 use Rattle.sbp_initiator.specs.declared.purpose.Purpose.TheVariants as purposes
-use Rattle.sbp_initiator.specs.declared.state.InitiatorState.{InitiatorState}
-use Rattle.sbp_initiator.specs.Receiving.{receive_step, received}
-use Rattle.sbp_initiator.specs.States.{ending_of, is_answered, is_unwritten}
-use Rattle.sbp_laws.specs.Lists.{slot_at}
 use Rattle.sbp_world.proofs.Wire.Deliver.{judging_stays}
-use Rattle.sbp_initiator.specs.Histories.Marks.{answers_pointer, finding_answers}
 use Rattle.sbp_initiator.proofs.Histories.Busy.{Alone, busy_found, idle, judge_alone, points_to}
 use Rattle.sbp_initiator.proofs.Histories.Sits.{busy_now, sits}
-use Rattle.sbp_world.specs.Hosts.Calls.{behind}
 use Rattle.sbp_world.proofs.Hosts.Aimed.{Aims, IsAimed}
 use Rattle.sbp_world.proofs.Hosts.Hosted.{Cored}
 use Rattle.sbp_world.proofs.Hosts.Layered.{AreTame, LayerLeft, read, same}
@@ -39,7 +21,6 @@ use Rattle.sbp_world.proofs.Hosts.Pointed.{Pointed}
 use Rattle.sbp_world.proofs.Hosts.PointerNotes.{Fit, tame_told}
 use Rattle.sbp_world.proofs.Hosts.Pointing.{Points, asked_generation, called_of, under_way_now}
 use Rattle.sbp_world.proofs.Hosts.Shown.{IsShown}
-use Rattle.sbp_world.specs.Pointers.Moments.{NonePoints}
 use Rattle.sbp_world.proofs.Pointers.Ages.{got_closes}
 use Rattle.sbp_world.proofs.Pointers.Dropping.{drops_of}
 use Rattle.sbp_world.proofs.Pointers.Finds.{closes_at, is_pended}

@@ -1,34 +1,20 @@
 -- In every run each moment of an initiator stands as it may.
-use Rattle.std.proofs.Common.{arith, ◌≡◌, inl, refl, sym, ◌∙◌, ap, subst, ℕ, suc, ◌+◌, ◌<◌, ◌≤◌, nat_eq, is_some, not, Bool, true, false, List, [], ◌∷◌, ◌++◌, map, Option, Some}
-use Rattle.std.proofs.lemmas.Bool.Decides.{nat_tests}
-use Rattle.bus_transactions.specs.Wire.{transaction}
+use Rattle.sbp_world.proofs.Words.Std.{arith, ◌≡◌, inl, refl, sym, ◌∙◌, ap, subst, ℕ, suc, ◌+◌, ◌<◌, ◌≤◌, nat_eq, is_some, not, Bool, true, false, List, [], ◌∷◌, ◌++◌, map, Option, Some, nat_tests}
+use Rattle.sbp_world.proofs.Words.Wire.{transaction, Moment, asked, said, Transaction, Held, terms, Action, Event, Note}
+use Rattle.sbp_world.proofs.Words.Target.{Told}
+use Rattle.sbp_world.proofs.Words.Initiator.{InitiatorState, new_state, is_unwritten, wanted_body}
+use Rattle.sbp_world.proofs.Words.Laws.{event_of}
+use Rattle.sbp_world.proofs.Words.World.{history_of, Run, world_after, beginning, MayAll, after_all, begun, initiator_at, Core, IsRun, more_deliveries, MaySend}
 use Rattle.bus_transactions.proofs.Fits.{request_fits}
-use Rattle.rbc_disk.specs.Runs.{Told}
-use Rattle.sbp_journal.specs.Run.{Moment, asked, said}
-use Rattle.sbp_journal.specs.Transactions.{Transaction}
-use Rattle.sbp_journal.specs.Wire.{Held, terms}
-use Rattle.sbp_journal.specs.declared.event.Action.{Action}
-use Rattle.sbp_journal.specs.declared.event.Event.{Event}
 use Rattle.sbp_journal.specs.declared.event.Event.TheVariants as events
-use Rattle.sbp_journal.specs.declared.note.Note.{Note}
 use Rattle.sbp_journal.specs.declared.note.Note.TheVariants as notes
 use Rattle.sbp_initiator.specs.declared.purpose.Pointing.TheVariants as pointings
-use Rattle.sbp_initiator.specs.declared.state.InitiatorState.{InitiatorState}
-use Rattle.sbp_initiator.specs.Initiators.{new_state}
-use Rattle.sbp_initiator.specs.States.{is_unwritten, wanted_body}
-use Rattle.sbp_laws.specs.Turns.{event_of}
-use Rattle.sbp_world.specs.Histories.{history_of}
-use Rattle.sbp_world.specs.Runs.{Run, after as world_after, beginning}
-use Rattle.sbp_world.specs.Settling.{MayAll, after_all}
-use Rattle.sbp_world.specs.Worlds.{begun, initiator_at}
 use Rattle.sbp_world.proofs.FitInitiator.Acts.{IfDemand, demand_fits}
 use Rattle.sbp_world.proofs.FitInitiator.Law.{fitting_law as own_fitting_law}
 use Rattle.sbp_world.proofs.FitTarget.Law.{fitting_law}
 use Rattle.sbp_world.proofs.Wire.Holding.{TargetOf, target_small}
 use Rattle.sbp_world.proofs.Wire.Runs.{sound_after}
-use Rattle.sbp_world.specs.Hosts.Core.{Core}
 use Rattle.sbp_world.specs.Hosts.Refusing.{initiator_of}
-use Rattle.sbp_world.specs.Hosts.Runs.{IsRun, more_deliveries}
 use Rattle.sbp_world.proofs.Hosts.Aimed.{first_aimed}
 use Rattle.sbp_world.proofs.Hosts.Carried.{Knows, between_runs, of_runs}
 use Rattle.sbp_world.proofs.Hosts.Carries.{Carries, IsNoAct, is_apart}
@@ -40,7 +26,6 @@ use Rattle.sbp_world.proofs.Hosts.PointerNotes.{Fit, apart_passes, opens, pointe
 use Rattle.sbp_world.proofs.Hosts.Pointing.{keeps_is, wrote_is}
 use Rattle.sbp_world.proofs.Hosts.Runs.{are_after}
 use Rattle.sbp_world.proofs.Hosts.Shown.{IsElsewhere}
-use Rattle.sbp_world.specs.Pointers.Moments.{MaySend}
 use Rattle.sbp_world.proofs.Pointers.Ages.{moment_closes, moment_generation}
 use Rattle.sbp_world.proofs.Pointers.GuardDoes.{Ready, does_guarded}
 use Rattle.sbp_world.proofs.Pointers.GuardHears.{expires_guarded, hears_guarded}

@@ -1,16 +1,11 @@
 -- What each note leaves of the ORB_POINTER write that an initiator's host names.
-use Rattle.std.proofs.Common.{arith, ◌≡◌, refl, sym, ◌∙◌, ap, subst, ℕ, zero, suc, ◌==◌, nat_eq, is_some, not, Bool, true, false, cond, List, [], ◌∷◌, Option, Some, None}
-use Rattle.std.proofs.lemmas.Bool.Decides.{nat_tests}
-use Rattle.sbp_journal.specs.Run.{Moment, said}
-use Rattle.sbp_journal.specs.declared.note.Note.{Note}
+use Rattle.sbp_world.proofs.Words.Std.{arith, ◌≡◌, refl, sym, ◌∙◌, ap, subst, ℕ, zero, suc, ◌==◌, nat_eq, is_some, not, Bool, true, false, cond, List, [], ◌∷◌, Option, Some, None, nat_tests}
+use Rattle.sbp_world.proofs.Words.Wire.{Moment, said, Note, Operation, OpWord, NoteBuffer}
+use Rattle.sbp_world.proofs.Words.Laws.{Host, host_at, list_begins}
+use Rattle.sbp_world.proofs.Words.World.{Core, host_core}
 use Rattle.sbp_journal.specs.declared.note.Note.TheVariants as notes
-use Rattle.sbp_journal.specs.declared.operation.Operation.{Operation}
 use Rattle.sbp_journal.specs.declared.operation.Operation.TheVariants as operations
-use Rattle.sbp_journal.specs.declared.operation.OpWord.{OpWord}
-use Rattle.sbp_journal.specs.declared.note.NoteBuffer.{NoteBuffer}
 use Rattle.sbp_journal.specs.declared.side.Side.TheVariants as sides
-use Rattle.sbp_laws.specs.Hosts.{Host, host_at, list_begins}
-use Rattle.sbp_world.specs.Hosts.Core.{Core, host_core}
 use Rattle.sbp_world.proofs.Hosts.Cores.{apart_core, ended_in, expired_told, got_told, op_told, reset_in, seen_told, stuck_told, taken_told}
 use Rattle.sbp_world.proofs.Hosts.PointerNotes.{got_fades_now, pointer, seen_fades_now, tame_told, timed_fades_now}
 use Rattle.sbp_world.proofs.Common.{untrue}

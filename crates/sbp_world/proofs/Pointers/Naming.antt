@@ -1,23 +1,13 @@
 -- For which list each ORB_POINTER was written, by the moments of a history alone.
-use Rattle.std.proofs.Common.{arith, ◌≡◌, refl, sym, ◌∙◌, ap, subst, ℕ, zero, suc, ◌<◌, ◌≤◌, ◌==◌, nat_eq, nat_lt, is_some, Bool, true, false, cond, List, ◌∷◌, Option, Some, None}
-use Rattle.std.proofs.lemmas.Bool.Decides.{nat_tests}
+use Rattle.sbp_world.proofs.Words.Std.{arith, ◌≡◌, refl, sym, ◌∙◌, ap, subst, ℕ, zero, suc, ◌<◌, ◌≤◌, ◌==◌, nat_eq, nat_lt, is_some, Bool, true, false, cond, List, ◌∷◌, Option, Some, None, nat_tests, upd2}
+use Rattle.sbp_world.proofs.Words.Wire.{Moment, asked, said, Sending, terms, Event, Note, NoteBuffer}
+use Rattle.sbp_world.proofs.Words.Initiator.{start}
+use Rattle.sbp_world.proofs.Words.Laws.{linked, lowest_vacant, present_list, slot_at, slots, access_in_bytes, lists}
+use Rattle.sbp_world.proofs.Words.World.{Remains, pointer_write, begun_in, pointed_list}
 use Rattle.bus_memory.specs.declared.window.Window.TheVariants as windows
-use Rattle.bus_memory.specs.Windows.{start}
-use Rattle.sbp_base.specs.Update.{upd2}
-use Rattle.sbp_journal.specs.Run.{Moment, asked, said}
-use Rattle.sbp_journal.specs.Transactions.{Sending}
-use Rattle.sbp_journal.specs.Wire.{terms}
-use Rattle.sbp_journal.specs.declared.event.Event.{Event}
-use Rattle.sbp_journal.specs.declared.note.Note.{Note}
 use Rattle.sbp_journal.specs.declared.note.Note.TheVariants as notes
-use Rattle.sbp_journal.specs.declared.note.NoteBuffer.{NoteBuffer}
-use Rattle.sbp_laws.specs.Lists.{linked, lowest_vacant, present_list, slot_at, slots}
-use Rattle.sbp_laws.specs.Packets.{access_in_bytes}
-use Rattle.sbp_laws.specs.Terms.{lists}
-use Rattle.sbp_world.specs.Hosts.Remaining.{Remains}
 use Rattle.sbp_world.proofs.Hosts.PointerNotes.{pointer}
-use Rattle.sbp_world.specs.Pointers.Moments.{pointer_write}
-use Rattle.sbp_world.specs.Pointers.Pointers.{IsNamed, begun_in, pointed_list}
+use Rattle.sbp_world.specs.Pointers.Pointers.{IsNamed}
 use Rattle.sbp_world.proofs.Pointers.Ages.{Closes}
 use Rattle.sbp_world.proofs.Common.{least, untrue, cond_off}
 

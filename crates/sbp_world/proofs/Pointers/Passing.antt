@@ -1,27 +1,16 @@
 -- What lasts from one moment of a history to a later one, of the ORB_POINTER write that a host names; and what an initiator may tell.
-use Rattle.std.proofs.Common.{arith, ◌≡◌, refl, sym, ◌∙◌, ap, subst, ℕ, suc, ◌==◌, nat_eq, is_some, not, ◌||◌, Bool, true, false, List, [], ◌∷◌, Option, Some, None}
-use Rattle.std.proofs.lemmas.Bool.Decides.{nat_tests}
-use Rattle.std.specs.List.{AllByRecursion}
-use Rattle.std.proofs.lemmas.Bool.{not-true}
-use Rattle.sbp_bus.specs.Packets.{judged_note}
-use Rattle.sbp_journal.specs.Run.{Moment, asked, said}
-use Rattle.sbp_journal.specs.Transactions.{Sending}
-use Rattle.sbp_journal.specs.Wire.{Terms, terms}
-use Rattle.sbp_journal.specs.declared.cause.Judged.{Judged}
+use Rattle.sbp_world.proofs.Words.Std.{arith, ◌≡◌, refl, sym, ◌∙◌, ap, subst, ℕ, suc, ◌==◌, nat_eq, is_some, not, ◌||◌, Bool, true, false, List, [], ◌∷◌, Option, Some, None, nat_tests, AllByRecursion, not-true}
+use Rattle.sbp_world.proofs.Words.Wire.{judged_note, Moment, asked, said, Sending, Terms, terms, Judged, Event, Note, Side}
+use Rattle.sbp_world.proofs.Words.Laws.{EachMoment}
+use Rattle.sbp_world.proofs.Words.World.{behind, MayDrop, MayEnd, MayStand, NonePoints, turn_of}
 use Rattle.sbp_journal.specs.declared.cause.Judged.TheVariants as judgements
-use Rattle.sbp_journal.specs.declared.event.Event.{Event}
-use Rattle.sbp_journal.specs.declared.note.Note.{Note}
 use Rattle.sbp_journal.specs.declared.note.Note.TheVariants as notes
-use Rattle.sbp_journal.specs.declared.side.Side.{Side}
 use Rattle.sbp_journal.specs.declared.side.Side.TheVariants as sides
-use Rattle.sbp_laws.specs.Turns.{EachMoment}
 use Rattle.sbp_world.proofs.Wire.Agrees.{got_agrees, ignored_agrees, timed_agrees}
-use Rattle.sbp_world.specs.Hosts.Calls.{behind}
 use Rattle.sbp_world.proofs.Hosts.Carries.{is_apart}
 use Rattle.sbp_world.proofs.Hosts.Layered.{AreTame, is_tame}
 use Rattle.sbp_world.proofs.Hosts.OrbTerms.{AreStill, is_left}
 use Rattle.sbp_world.proofs.Hosts.PointerNotes.{got_fades_now, opens, pointer, tame_told, timed_fades_now}
-use Rattle.sbp_world.specs.Pointers.Moments.{MayDrop, MayEnd, MayStand, NonePoints, turn_of}
 use Rattle.sbp_world.proofs.Pointers.Ages.{Closes, is_sight, moment_closes, moment_generation}
 use Rattle.sbp_world.proofs.Pointers.Dropping.{drops_of, is_drop}
 use Rattle.sbp_world.proofs.Pointers.Names.{drop_none, here}

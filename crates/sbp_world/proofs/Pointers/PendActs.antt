@@ -1,35 +1,11 @@
 -- What holds of an initiator's marks is kept by its actions.
-use Rattle.std.proofs.Common.{arith, ◌≡◌, refl, sym, ap, ◌∙◌, ℕ, ◌+◌, nat_eq, Bool, true, false, cond, Option, Some, None, Result, Ok, Err}
-use Rattle.label_table.specs.declared.judgement.Asked.{Asked}
-use Rattle.label_table.specs.Layer.{Layer}
-use Rattle.orb_layout.specs.declared.management.ManagementOrb.{ManagementOrb}
-use Rattle.orb_list.specs.declared.fault.ListFault.{ListFault}
-use Rattle.orb_list.specs.declared.list.Link.{Link}
-use Rattle.orb_list.specs.declared.list.Linking.{Linking}
-use Rattle.orb_list.specs.declared.list.PresentList.{PresentList}
-use Rattle.orb_list.specs.Tickets.{TicketParts}
-use Rattle.orb_list.specs.Table.{SlotTable, extended, find_in, high_for, high_step, link_set, list_number, low_for, low_step as slot_low, may_prepare, next_ticket, orb_number, prepare_at, prepare_step, waits_high, waits_low}
-use Rattle.orb_list.specs.Lists.{ListState, dummy_lists, high_lists, low_lists, pin_lists, stepped}
-use Rattle.sbp_session.specs.declared.seat.Seat.{Seat}
+use Rattle.sbp_world.proofs.Words.Std.{arith, ◌≡◌, refl, sym, ap, ◌∙◌, ℕ, ◌+◌, nat_eq, Bool, true, false, cond, Option, Some, None, Result, Ok, Err}
+use Rattle.sbp_world.proofs.Words.Wire.{Asked, Layer, Action, Cmd, Operation, OutboxState, empty_outbox}
+use Rattle.sbp_world.proofs.Words.Initiator.{ManagementOrb, ListFault, Link, Linking, PresentList, TicketParts, SlotTable, extended, find_in, high_for, high_step, link_set, list_number, low_for, slot_low, may_prepare, next_ticket, orb_number, prepare_at, prepare_step, waits_high, waits_low, ListState, dummy_lists, high_lists, low_lists, pin_lists, stepped, Seat, goes, pointing, sent, is_stuck_seat, points, Demand, Pointing, Purpose, Running, InitiatorState, ends_list, is_in_live, prepares, refusal, is_list, is_unwritten, no_marks, operation_in, place_of, session_of, act_step, append_step, asked_as, asked_for, demand_of, demanded_as, done_step, dummy_for, facts_with, judged_as, link_as, link_step, login_id, login_orb, low_as, low_step, managed_by, orb_by, pinned_for, put_as, put_step, ring_for, with_running, asked_by, prepared_as, put_lists}
 use Rattle.sbp_session.specs.declared.seat.Seat.TheVariants as seats
-use Rattle.sbp_session.specs.Moves.{goes, pointing, sent}
-use Rattle.sbp_session.specs.Seats.{is_stuck_seat, points}
-use Rattle.sbp_journal.specs.declared.event.Action.{Action}
 use Rattle.sbp_journal.specs.declared.event.Action.TheVariants as actions
-use Rattle.sbp_journal.specs.declared.event.Cmd.{Cmd}
-use Rattle.sbp_journal.specs.declared.operation.Operation.{Operation}
 use Rattle.sbp_journal.specs.declared.operation.Operation.TheVariants as operations
-use Rattle.sbp_journal.specs.Outgoings.{OutboxState, empty_outbox}
-use Rattle.sbp_initiator.specs.declared.purpose.Demand.{Demand}
-use Rattle.sbp_initiator.specs.declared.purpose.Pointing.{Pointing}
 use Rattle.sbp_initiator.specs.declared.purpose.Pointing.TheVariants as pointings
-use Rattle.sbp_initiator.specs.declared.purpose.Purpose.{Purpose}
-use Rattle.sbp_initiator.specs.declared.purpose.Running.{Running}
-use Rattle.sbp_initiator.specs.declared.state.InitiatorState.{InitiatorState}
-use Rattle.sbp_initiator.specs.Refusals.{ends_list, is_in_live, prepares, refusal}
-use Rattle.sbp_initiator.specs.States.{is_list, is_unwritten, no_marks, operation_in, place_of, session_of}
-use Rattle.sbp_initiator.specs.Acting.{act_step, append_step, asked_as, asked_for, demand_of, demanded_as, done_step, dummy_for, facts_with, judged_as, link_as, link_step, login_id, login_orb, low_as, low_step, managed_by, orb_by, pinned_for, put_as, put_step, ring_for, with_running}
-use Rattle.sbp_initiator.specs.Commands.{asked_by, prepared_as, put_lists}
 use Rattle.sbp_initiator.proofs.Histories.Actions.{Allowed, Steps, allowed, allowed_layer, dummy_present, is_ok, link_does, list_same, low_does, manage_slots, pins_present, put_does, step_then}
 use Rattle.sbp_initiator.proofs.Histories.Effects.{HasMarks}
 use Rattle.sbp_world.proofs.Pointers.Pends.{Pend, Pends, listed_pends, moved_pends, unwritten_not}

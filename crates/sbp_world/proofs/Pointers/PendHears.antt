@@ -1,35 +1,12 @@
 -- What holds of an initiator's marks is kept by deliveries and time-outs, and as a generation is seen.
-use Rattle.std.proofs.Common.{◌≡◌, refl, ℕ, nat_lt, ◌&&◌, Bool, true, false, cond, List, replicate, Option, Some, None, Result, Ok, Err}
-use Rattle.byteorder.specs.Endian.{big_bytes}
-use Rattle.async_packet.specs.Labels.{LabelParts}
-use Rattle.async_packet.specs.declared.packet.Header.{Header}
-use Rattle.async_packet.specs.Packet.{Packet, write_quadlet, write_block, write_response, read_quadlet, read_block, read_quadlet_response, read_block_response, lock, lock_response}
-use Rattle.label_table.specs.declared.reply.Stale.{Stale}
-use Rattle.label_table.specs.Layer.{Layer, Finding, of_generation, of_grammar, of_label, of_response, of_again, of_request, expiring_step, judging_step, seeing_step, seen_in_generation}
-use Rattle.bus_memory.specs.Access.{read_step}
-use Rattle.bus_memory.specs.Windows.{slot_of}
-use Rattle.media_bay.specs.Unsolicited.{is_block}
-use Rattle.orb_layout.specs.declared.fault.OrbFault.{OrbFault}
-use Rattle.orb_layout.specs.declared.status.StatusBlock.{StatusBlock}
-use Rattle.orb_layout.specs.declared.status.StatusKind.{StatusKind}
+use Rattle.sbp_world.proofs.Words.Std.{◌≡◌, refl, ℕ, nat_lt, ◌&&◌, Bool, true, false, cond, List, replicate, Option, Some, None, Result, Ok, Err, big_bytes}
+use Rattle.sbp_world.proofs.Words.Wire.{LabelParts, Header, Packet, write_quadlet, write_block, write_response, read_quadlet, read_block, read_quadlet_response, read_block_response, lock, lock_response, Stale, Layer, Finding, of_generation, of_grammar, of_label, of_response, of_again, of_request, expiring_step, judging_step, seeing_step, seen_in_generation, OutboxState, empty_outbox}
+use Rattle.sbp_world.proofs.Words.Target.{is_block}
+use Rattle.sbp_world.proofs.Words.Initiator.{read_step, slot_of, OrbFault, StatusBlock, StatusKind, PresentList, TicketParts, free_all_step, passed_for, slot_in, status_at, status_for, slot_step, waiting, ListState, free_lists, stepped, take_lists, write_lists, Fifo, is_dead_kind, Purpose, Running, InitiatorState, ends_list, ending_of, is_list, is_orb_of, operation_in, status_in, address_error, addressed, block_at, block_by, block_step, called, expire_step, expired_as, fifo_of, got_step, ignored_step, is_foreign, managed_for, present_for, quadlet_at, read_as, receive_step, received, request_step, serve_step, status_step, taken_as, written_as, see_step, seen_as}
 use Rattle.orb_layout.specs.declared.status.StatusKind.TheVariants as kinds
-use Rattle.orb_list.specs.declared.list.PresentList.{PresentList}
-use Rattle.orb_list.specs.Tickets.{TicketParts}
-use Rattle.orb_list.specs.Table.{free_all_step, passed_for, slot_in, status_at, status_for, status_step as slot_step, waiting}
-use Rattle.orb_list.specs.Lists.{ListState, free_lists, stepped, take_lists, write_lists}
 use Rattle.sbp_journal.specs.declared.cause.Cause.TheVariants as causes
-use Rattle.sbp_journal.specs.Outgoings.{OutboxState, empty_outbox}
-use Rattle.initiator_base.specs.declared.fifos.Fifo.{Fifo}
 use Rattle.initiator_base.specs.declared.fifos.Fifo.TheVariants as fifos
-use Rattle.initiator_base.specs.Fifos.{is_dead_kind}
 use Rattle.sbp_initiator.specs.declared.purpose.Ending.TheVariants as endings
-use Rattle.sbp_initiator.specs.declared.purpose.Purpose.{Purpose}
-use Rattle.sbp_initiator.specs.declared.purpose.Running.{Running}
-use Rattle.sbp_initiator.specs.declared.state.InitiatorState.{InitiatorState}
-use Rattle.sbp_initiator.specs.Refusals.{ends_list}
-use Rattle.sbp_initiator.specs.States.{ending_of, is_list, is_orb_of, operation_in, status_in}
-use Rattle.sbp_initiator.specs.Receiving.{address_error, addressed, block_at, block_by, block_step, called, expire_step, expired_as, fifo_of, got_step, ignored_step, is_foreign, managed_for, present_for, quadlet_at, read_as, receive_step, received, request_step, serve_step, status_step, taken_as, written_as}
-use Rattle.sbp_initiator.specs.Seeing.{see_step, seen_as}
 use Rattle.sbp_world.proofs.Pointers.Pends.{IfEnding, Pend, dead_pends, for_pends, listed_pends, managed_pends, unwritten_not}
 use Rattle.sbp_world.proofs.Common.{untrue}
 

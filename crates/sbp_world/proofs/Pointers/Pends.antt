@@ -1,37 +1,15 @@
 -- What holds of an initiator's marks: while its list is the present one they have the slot of its first ORB; a session that is not Stuck counts as
 -- pointing while ORB_POINTER was written and not answered; and no operation that ends lists is under way then. The ends of transactions
 -- keep it, and none drops a list then.
-use Rattle.std.proofs.Common.{◌≡◌, refl, sym, ap, ◌∙◌, ℕ, nat_eq, Bool, true, false, cond, List, length, Option, Some, None, Result, Ok, Err}
-use Rattle.config_rom.specs.declared.fault.RomFault.{RomFault}
-use Rattle.config_rom.specs.declared.unit.SbpUnit.{SbpUnit}
-use Rattle.config_rom.specs.Reading.{Tree, reading}
-use Rattle.config_rom.specs.Unit.{sbp_unit_of}
-use Rattle.label_table.specs.declared.judgement.Asked.{Asked}
-use Rattle.label_table.specs.Layer.{Layer, asking_step}
-use Rattle.orb_list.specs.declared.list.PresentList.{PresentList}
-use Rattle.orb_list.specs.Table.{drop_for, drop_step}
-use Rattle.orb_list.specs.Lists.{drop_lists, unpin_lists}
-use Rattle.initiator_base.specs.Quads.{with_quad}
-use Rattle.initiator_base.specs.Places.{management_at}
-use Rattle.sbp_session.specs.declared.seat.Seat.{Seat}
-use Rattle.sbp_session.specs.Moves.{Event, bad, conflict, pointed, failed, goes}
-use Rattle.sbp_session.specs.Seats.{is_stuck_seat, points}
-use Rattle.sbp_journal.specs.declared.operation.Operation.{Operation}
+use Rattle.sbp_world.proofs.Words.Std.{◌≡◌, refl, sym, ap, ◌∙◌, ℕ, nat_eq, Bool, true, false, cond, List, length, Option, Some, None, Result, Ok, Err}
+use Rattle.sbp_world.proofs.Words.Wire.{Asked, Layer, asking_step, Operation, OpWord, OutboxState}
+use Rattle.sbp_world.proofs.Words.Target.{RomFault, SbpUnit, Tree, reading, sbp_unit_of}
+use Rattle.sbp_world.proofs.Words.Initiator.{PresentList, drop_for, drop_step, drop_lists, unpin_lists, with_quad, management_at, Seat, Event, bad, conflict, pointed, failed, goes, is_stuck_seat, points, Ending, Pointing, Purpose, Running, InitiatorState, ends_list, counts_for, is_list, is_unwritten, operation_in, dropped_as, drop_list_step, end_step, end_own_for, end_own_step, then_step, with_answered, pointer_ended, doorbell_ended, fail_step, reset_ended, enable_ended, moves_session, moved, conflict_for, conflict_step, is_conflict, management_ended, response_of, good_event, good_word, drop_where, good_end, managed_step, fault_number, with_unit, with_rom, finish_rom, next_quad, asked_quad, ask_quad, is_address, rom_ended, with_dead, known_where, state_ended, ended_step, ended_for}
 use Rattle.sbp_journal.specs.declared.operation.Operation.TheVariants as operations
-use Rattle.sbp_journal.specs.declared.operation.OpWord.{OpWord}
 use Rattle.sbp_journal.specs.declared.operation.OpWord.TheVariants as words
-use Rattle.sbp_journal.specs.Outgoings.{OutboxState}
-use Rattle.sbp_initiator.specs.declared.purpose.Ending.{Ending}
 use Rattle.sbp_initiator.specs.declared.purpose.Ending.TheVariants as endings
-use Rattle.sbp_initiator.specs.declared.purpose.Pointing.{Pointing}
 use Rattle.sbp_initiator.specs.declared.purpose.Pointing.TheVariants as pointings
-use Rattle.sbp_initiator.specs.declared.purpose.Purpose.{Purpose}
 use Rattle.sbp_initiator.specs.declared.purpose.Purpose.TheVariants as purposes
-use Rattle.sbp_initiator.specs.declared.purpose.Running.{Running}
-use Rattle.sbp_initiator.specs.declared.state.InitiatorState.{InitiatorState}
-use Rattle.sbp_initiator.specs.Refusals.{ends_list}
-use Rattle.sbp_initiator.specs.States.{counts_for, is_list, is_unwritten, operation_in}
-use Rattle.sbp_initiator.specs.Effects.{dropped_as, drop_list_step, end_step, end_own_for, end_own_step, then_step, with_answered, pointer_ended, doorbell_ended, fail_step, reset_ended, enable_ended, moves_session, moved, conflict_for, conflict_step, is_conflict, management_ended, response_of, good_event, good_word, drop_where, good_end, managed_step, fault_number, with_unit, with_rom, finish_rom, next_quad, asked_quad, ask_quad, is_address, rom_ended, with_dead, known_where, state_ended, ended_step, ended_for}
 use Rattle.sbp_initiator.proofs.Histories.Effects.{unpin_present}
 use Rattle.sbp_initiator.proofs.Histories.Stands.{failed_sticks, is_plain, plain_goes}
 use Rattle.sbp_world.proofs.Common.{untrue}

@@ -1,43 +1,19 @@
 -- The laws of the writes of ORB_POINTER, of every run.
-use Rattle.std.proofs.Common.{arith, ◌≡◌, refl, sym, ◌∙◌, ap, subst, ℕ, suc, ◌<◌, nat_lt, is_some, Bool, true, false, List, ◌∷◌, ◌++◌, map, Option, Some, None, Result, Ok, Err}
-use Rattle.std.proofs.lemmas.Bool.Decides.{nat_tests}
-use Rattle.std.proofs.lemmas.Option.{same_Some}
-use Rattle.async_packet.specs.declared.fault.PacketFault.{PacketFault}
-use Rattle.async_packet.specs.Packet.{Packet, lock, lock_response, read_block, read_block_response, read_quadlet, read_quadlet_response, write_block, write_quadlet, write_response}
-use Rattle.async_packet.specs.Reading.{reading}
+use Rattle.sbp_world.proofs.Words.Std.{arith, ◌≡◌, refl, sym, ◌∙◌, ap, subst, ℕ, suc, ◌<◌, nat_lt, is_some, Bool, true, false, List, ◌∷◌, ◌++◌, map, Option, Some, None, Result, Ok, Err, nat_tests, same_Some}
+use Rattle.sbp_world.proofs.Words.Wire.{PacketFault, Packet, lock, lock_response, read_block, read_block_response, read_quadlet, read_quadlet_response, write_block, write_quadlet, write_response, reading, Access, access_of, Moment, asked, said, Sending, part_by, part_of, request, writing, terms}
+use Rattle.sbp_world.proofs.Words.Target.{Told}
+use Rattle.sbp_world.proofs.Words.Initiator.{start, Pointing, InitiatorState, is_answered, is_unwritten}
+use Rattle.sbp_world.proofs.Words.Laws.{slot_at, lists, injectors, access_in, access_in_bytes, spelled_by, EachMoment}
+use Rattle.sbp_world.proofs.Words.World.{history_of, Run, after, beginning, MayAll, after_all, WorldState, begun, initiator_at, IsOfWire, Stands, history, IsRun, more_deliveries, MayAsk, MayStand, WritesLaw, begun_in, IsPointer, IsPointing, MomentsLaw, PointersAt, PointersLaw, pointed_list}
 use Rattle.bus_memory.specs.declared.window.Window.TheVariants as windows
-use Rattle.bus_memory.specs.Windows.{start}
-use Rattle.rbc_disk.specs.Runs.{Told}
-use Rattle.sbp_journal.specs.Addresses.{Access, access_of}
-use Rattle.sbp_journal.specs.Run.{Moment, asked, said}
-use Rattle.sbp_journal.specs.Transactions.{Sending, part_by, part_of, request, writing}
-use Rattle.sbp_journal.specs.Wire.{terms}
-use Rattle.sbp_initiator.specs.declared.purpose.Pointing.{Pointing}
 use Rattle.sbp_initiator.specs.declared.purpose.Pointing.TheVariants as pointings
-use Rattle.sbp_initiator.specs.declared.state.InitiatorState.{InitiatorState}
-use Rattle.sbp_initiator.specs.States.{is_answered, is_unwritten}
-use Rattle.sbp_laws.specs.Lists.{slot_at}
-use Rattle.sbp_laws.specs.Terms.{lists}
-use Rattle.sbp_laws.specs.Lawful.{injectors}
-use Rattle.sbp_laws.specs.Packets.{access_in, access_in_bytes, spelled_by}
-use Rattle.sbp_laws.specs.Turns.{EachMoment}
-use Rattle.sbp_world.specs.Histories.{history_of}
-use Rattle.sbp_world.specs.Runs.{Run, after, beginning}
-use Rattle.sbp_world.specs.Settling.{MayAll, after_all}
-use Rattle.sbp_world.specs.Worlds.{WorldState, begun, initiator_at}
-use Rattle.sbp_world.specs.Wire.History.{IsOfWire}
-use Rattle.sbp_world.specs.Wire.Wires.{Stands}
 use Rattle.sbp_world.proofs.FitInitiator.Law.{fitting_law as own_fitting_law}
 use Rattle.sbp_world.proofs.FitTarget.Law.{fitting_law}
 use Rattle.sbp_world.proofs.Wire.Runs.{SoundAfter, sound_after}
 use Rattle.sbp_world.proofs.Wire.Starts.{laws_of}
-use Rattle.sbp_world.specs.Hosts.Handing.{history}
 use Rattle.sbp_world.specs.Hosts.Refusing.{initiator_of}
-use Rattle.sbp_world.specs.Hosts.Runs.{IsRun, more_deliveries}
 use Rattle.sbp_world.proofs.Hosts.Carried.{stands_between}
 use Rattle.sbp_world.proofs.Hosts.Pointing.{wrote_is}
-use Rattle.sbp_world.specs.Pointers.Moments.{MayAsk, MayStand}
-use Rattle.sbp_world.specs.Pointers.Pointers.{WritesLaw, begun_in, IsPointer, IsPointing, MomentsLaw, PointersAt, PointersLaw, pointed_list}
 use Rattle.sbp_world.proofs.Pointers.GuardActs.{cutting_is}
 use Rattle.sbp_world.proofs.Pointers.Written.{all_asked, all_writes}
 use Rattle.sbp_world.proofs.Pointers.CalmRuns.{calm_between, calm_of_runs}

@@ -1,52 +1,17 @@
 -- What an initiator sends in a call that is no action asks for no write: it is a response, or a read of a quadlet of the target's ROM.
-use Rattle.std.proofs.Common.{arith, ◌≡◌, refl, sym, ◌∙◌, ap, subst, ℕ, ◌<◌, ◌^◌, ◌==◌, ◌&&◌, nat_lt, Bool, true, false, cond, List, [], ◌∷◌, ◌++◌, length, replicate, Option, Some, None, Result, Ok, Err}
-use Rattle.async_packet.specs.Canon.{IsValid}
-use Rattle.async_packet.specs.Labels.{LabelParts}
-use Rattle.async_packet.specs.Packet.{Packet, lock, lock_response, read_block, read_block_response, read_quadlet, read_quadlet_response, write_block, write_quadlet, write_response, header_in}
-use Rattle.byteorder.specs.Endian.{big_bytes}
-use Rattle.bus_memory.specs.Access.{read_step}
-use Rattle.config_rom.specs.declared.fault.RomFault.{RomFault}
-use Rattle.config_rom.specs.declared.unit.SbpUnit.{SbpUnit}
-use Rattle.config_rom.specs.Reading.{Tree, reading as rom_reading}
-use Rattle.config_rom.specs.Unit.{sbp_unit_of}
-use Rattle.label_table.specs.declared.judgement.Asked.{Asked}
-use Rattle.label_table.specs.declared.reply.Stale.{Stale}
-use Rattle.label_table.specs.Bodies.{response_to}
-use Rattle.label_table.specs.Layer.{Layer, Finding, of_again, of_generation, of_grammar, of_label, of_request, of_response, answering_step, asking_step, expiring_step, judging_step, seeing_step}
-use Rattle.media_bay.specs.Unsolicited.{is_block}
-use Rattle.orb_layout.specs.declared.fault.OrbFault.{OrbFault}
-use Rattle.orb_layout.specs.declared.status.StatusBlock.{StatusBlock}
-use Rattle.orb_layout.specs.declared.status.StatusKind.{StatusKind}
+use Rattle.sbp_world.proofs.Words.Std.{arith, ◌≡◌, refl, sym, ◌∙◌, ap, subst, ℕ, ◌<◌, ◌^◌, ◌==◌, ◌&&◌, nat_lt, Bool, true, false, cond, List, [], ◌∷◌, ◌++◌, length, replicate, Option, Some, None, Result, Ok, Err, big_bytes}
+use Rattle.sbp_world.proofs.Words.Wire.{IsValid, LabelParts, Packet, lock, lock_response, read_block, read_block_response, read_quadlet, read_quadlet_response, write_block, write_quadlet, write_response, header_in, Asked, Stale, response_to, Layer, Finding, of_again, of_generation, of_grammar, of_label, of_request, of_response, answering_step, asking_step, expiring_step, judging_step, seeing_step, Access, access_of, OutboxState, empty_outbox, Judged, OpWord, Outgoing, IsLayer, IsAnswering, IsDelivery, Reply}
+use Rattle.sbp_world.proofs.Words.Target.{RomFault, SbpUnit, Tree, rom_reading, sbp_unit_of, is_block}
+use Rattle.sbp_world.proofs.Words.Initiator.{read_step, OrbFault, StatusBlock, StatusKind, ListState, drop_lists, take_lists, write_lists, TicketParts, is_stuck_seat, Fifo, with_quad, Ending, Purpose, Running, InitiatorState, Turn, ask_quad, asked_quad, conflict_for, drop_list_step, drop_where, dropped_as, enable_ended, end_own_for, end_own_step, ended_for, fail_step, fault_number, finish_rom, is_address, is_conflict, known_where, managed_step, management_ended, next_quad, pointer_ended, doorbell_ended, ended_step, quad_got, reset_ended, rom_ended, state_ended, stick_step, told, with_rom, with_unit, addressed, block_at, block_by, block_step, called, expire_step, expired_as, fifo_of, is_foreign, address_error, data_error, managed_for, present_for, quadlet_at, read_as, receive_step, received, request_step, respond_step, serve_step, status_step, taken_as, taken_by, type_error, written_as, ends_list, all_end, interrupted, reset_told, resets_told, see_step, seen_as, states_end, counts_for, ending_of, status_in}
+use Rattle.sbp_world.proofs.Words.Laws.{access_in, access_in_bytes}
 use Rattle.orb_layout.specs.declared.status.StatusKind.TheVariants as kinds
-use Rattle.orb_list.specs.Lists.{ListState, drop_lists, take_lists, write_lists}
-use Rattle.orb_list.specs.Tickets.{TicketParts}
-use Rattle.sbp_journal.specs.Addresses.{Access, access_of}
-use Rattle.sbp_journal.specs.Outgoings.{OutboxState, empty_outbox}
-use Rattle.sbp_journal.specs.declared.cause.Judged.{Judged}
 use Rattle.sbp_journal.specs.declared.note.Note.TheVariants as notes
 use Rattle.sbp_journal.specs.declared.operation.Operation.TheVariants as operations
-use Rattle.sbp_journal.specs.declared.operation.OpWord.{OpWord}
 use Rattle.sbp_journal.specs.declared.operation.OpWord.TheVariants as words
-use Rattle.sbp_journal.specs.declared.outbox.Outgoing.{Outgoing}
-use Rattle.sbp_session.specs.Seats.{is_stuck_seat}
-use Rattle.initiator_base.specs.declared.fifos.Fifo.{Fifo}
 use Rattle.initiator_base.specs.declared.fifos.Fifo.TheVariants as fifos
-use Rattle.initiator_base.specs.Quads.{with_quad}
-use Rattle.sbp_initiator.specs.declared.purpose.Ending.{Ending}
 use Rattle.sbp_initiator.specs.declared.purpose.Ending.TheVariants as endings
-use Rattle.sbp_initiator.specs.declared.purpose.Purpose.{Purpose}
 use Rattle.sbp_initiator.specs.declared.purpose.Purpose.TheVariants as purposes
-use Rattle.sbp_initiator.specs.declared.purpose.Running.{Running}
-use Rattle.sbp_initiator.specs.declared.state.InitiatorState.{InitiatorState}
-use Rattle.sbp_initiator.specs.Effects.{Turn, ask_quad, asked_quad, conflict_for, drop_list_step, drop_where, dropped_as, enable_ended, end_own_for, end_own_step, ended_for, fail_step, fault_number, finish_rom, is_address, is_conflict, known_where, managed_step, management_ended, next_quad, pointer_ended, doorbell_ended, ended_step, quad_got, reset_ended, rom_ended, state_ended, stick_step, told, with_rom, with_unit}
-use Rattle.sbp_initiator.specs.Receiving.{addressed, block_at, block_by, block_step, called, expire_step, expired_as, fifo_of, is_foreign, address_error, data_error, managed_for, present_for, quadlet_at, read_as, receive_step, received, request_step, respond_step, serve_step, status_step, taken_as, taken_by, type_error, written_as}
-use Rattle.sbp_initiator.specs.Refusals.{ends_list}
-use Rattle.sbp_initiator.specs.Seeing.{all_end, interrupted, reset_told, resets_told, see_step, seen_as, states_end}
-use Rattle.sbp_initiator.specs.States.{counts_for, ending_of, status_in}
-use Rattle.sbp_laws.specs.Packets.{access_in, access_in_bytes, spelled_by as read_by}
-use Rattle.bus_transactions.specs.Fitting.{IsLayer}
-use Rattle.bus_transactions.specs.Steps.{IsAnswering, IsDelivery}
-use Rattle.bus_transactions.specs.Wire.{Reply}
+use Rattle.sbp_laws.specs.Packets.{spelled_by as read_by}
 use Rattle.bus_transactions.proofs.Fits.{request_fits}
 use Rattle.bus_transactions.proofs.FitSteps.{goes, judges_same}
 use Rattle.label_table.specs.History as wire

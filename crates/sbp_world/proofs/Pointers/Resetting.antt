@@ -1,48 +1,19 @@
 -- The request of an AGENT_RESET that is under way in an initiator's layer is the one by which its host's operation began.
-use Rattle.std.proofs.Common.{arith, ◌≡◌, refl, sym, ◌∙◌, ap, subst, ℕ, zero, suc, ◌&&◌, ◌==◌, nat_eq, nat_lt, is_some, not, ◌+◌, ◌%◌, Bool, true, false, cond, List, [], ◌∷◌, Option, Some, None}
-use Rattle.std.proofs.lemmas.Bool.Decides.{nat_tests}
-use Rattle.std.proofs.lemmas.Bool.{not-true}
-use Rattle.bus_transactions.specs.Wire.{transaction}
+use Rattle.sbp_world.proofs.Words.Std.{arith, ◌≡◌, refl, sym, ◌∙◌, ap, subst, ℕ, zero, suc, ◌&&◌, ◌==◌, nat_eq, nat_lt, is_some, not, ◌+◌, ◌%◌, Bool, true, false, cond, List, [], ◌∷◌, Option, Some, None, nat_tests, not-true}
+use Rattle.sbp_world.proofs.Words.Wire.{transaction, not_begun_life, under_way, ReplyKind, Layer, seeing_step, judged_note, empty_outbox, Moment, said, Kind, Part, Sending, between, part_of, request, response, Terms, kind_in, terms, waits, Judged, Action, Event, Note, Operation, OpWord, Outgoing, Side}
+use Rattle.sbp_world.proofs.Words.Initiator.{Purpose, Running, InitiatorState, Turn, new_state, own_operation, see_step, wanted_body, IsFree, IsReset}
+use Rattle.sbp_world.proofs.Words.Laws.{Host, Underway, acted, goes_on, host_at, known_host, list_begins, op_ended, operation_of, sent_in, present_list, answer_in, answered_at, packet_at, receiver_in, sender_in, event_of}
+use Rattle.sbp_world.proofs.Words.World.{behind, Core, work_in, work_of, IsResetting}
 use Rattle.bus_transactions.proofs.Facts.{asked_begun, request_asked}
-use Rattle.label_table.specs.History.{not_begun as not_begun_life, under_way}
-use Rattle.label_table.specs.declared.reply.ReplyKind.{ReplyKind}
-use Rattle.label_table.specs.Layer.{Layer, seeing_step}
-use Rattle.sbp_bus.specs.Packets.{judged_note}
-use Rattle.sbp_journal.specs.Outgoings.{empty_outbox}
-use Rattle.sbp_journal.specs.Run.{Moment, said}
-use Rattle.sbp_journal.specs.Transactions.{Kind, Part, Sending, between, no_packet, part_of, request, response}
-use Rattle.sbp_journal.specs.Wire.{Terms, kind_in, terms, waits}
-use Rattle.sbp_journal.specs.declared.cause.Judged.{Judged}
+use Rattle.sbp_journal.specs.Transactions.{no_packet}
 use Rattle.sbp_journal.specs.declared.cause.Judged.TheVariants as judgements
-use Rattle.sbp_journal.specs.declared.event.Action.{Action}
 use Rattle.sbp_journal.specs.declared.event.Action.TheVariants as actions
-use Rattle.sbp_journal.specs.declared.event.Event.{Event}
 use Rattle.sbp_journal.specs.declared.event.Event.TheVariants as events
-use Rattle.sbp_journal.specs.declared.note.Note.{Note}
 use Rattle.sbp_journal.specs.declared.note.Note.TheVariants as notes
-use Rattle.sbp_journal.specs.declared.operation.Operation.{Operation}
 use Rattle.sbp_journal.specs.declared.operation.Operation.TheVariants as operations
-use Rattle.sbp_journal.specs.declared.operation.OpWord.{OpWord}
-use Rattle.sbp_journal.specs.declared.outbox.Outgoing.{Outgoing}
-use Rattle.sbp_journal.specs.declared.side.Side.{Side}
 use Rattle.sbp_journal.specs.declared.side.Side.TheVariants as sides
-use Rattle.sbp_initiator.specs.declared.purpose.Purpose.{Purpose}
 use Rattle.sbp_initiator.specs.declared.purpose.Purpose.TheVariants as purposes
-use Rattle.sbp_initiator.specs.declared.purpose.Running.{Running}
-use Rattle.sbp_initiator.specs.declared.state.InitiatorState.{InitiatorState}
-use Rattle.sbp_initiator.specs.Effects.{Turn}
-use Rattle.sbp_initiator.specs.Initiators.{new_state}
-use Rattle.sbp_initiator.specs.Refusals.{operation_of as own_operation}
-use Rattle.sbp_initiator.specs.Seeing.{see_step}
-use Rattle.sbp_initiator.specs.States.{wanted_body}
-use Rattle.sbp_laws.specs.Hosts.{Host, Underway, acted, goes_on, got_by, host_at, is_serial, known_host, list_begins, op_ended, operation_of, reset_seen, sent_as, sent_in}
-use Rattle.sbp_laws.specs.Lists.{present_list}
-use Rattle.sbp_laws.specs.Packets.{answer_in, answered_at, packet_at, receiver_in, sender_in}
-use Rattle.sbp_laws.specs.Turns.{event_of}
-use Rattle.sbp_initiator.specs.Histories.Begins.{IsFree}
-use Rattle.sbp_initiator.specs.Histories.Pointing.{IsReset}
-use Rattle.sbp_world.specs.Hosts.Calls.{behind}
-use Rattle.sbp_world.specs.Hosts.Core.{Core, work_in, work_of}
+use Rattle.sbp_laws.specs.Hosts.{got_by, is_serial, reset_seen, sent_as}
 use Rattle.sbp_world.proofs.Hosts.ActLeft.{ActLeft, HasAsked}
 use Rattle.sbp_world.proofs.Hosts.Aimed.{IsAimed}
 use Rattle.sbp_world.proofs.Hosts.Asked.{IsRequest, number_in}
@@ -55,7 +26,6 @@ use Rattle.sbp_world.proofs.Hosts.Lives.{At, AskedAt, ask_at, asked_now, at_life
 use Rattle.sbp_world.proofs.Hosts.PointerNotes.{Fit, Told, tame_told}
 use Rattle.sbp_world.proofs.Hosts.Pointing.{asked_generation, called_of, pointing_of, sent_waits}
 use Rattle.sbp_world.proofs.Hosts.Shown.{IsShown}
-use Rattle.sbp_world.specs.Pointers.Moments.{IsResetting}
 use Rattle.sbp_world.proofs.Pointers.WaitActs.{makes_for, none_seen, see_old}
 use Rattle.sbp_world.proofs.Pointers.Waits.{Asks, is_cared, makes}
 use Rattle.sbp_world.proofs.Lists.ManageFirsts.{pointer_operation, acted_none}

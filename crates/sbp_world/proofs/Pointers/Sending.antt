@@ -1,25 +1,17 @@
 -- For which list each ORB_POINTER was written, as packets are sent; and over every history whose moments stand as they may.
-use Rattle.std.proofs.Common.{arith, ◌≡◌, ◌⊎◌, inl, inr, refl, sym, ◌∙◌, ap, subst, ℕ, zero, suc, ◌+◌, ◌<◌, ◌≤◌, ◌==◌, ◌&&◌, nat_eq, nat_lt, not, Bool, true, false, cond, List, [], ◌∷◌, Option, Some, None}
-use Rattle.std.proofs.lemmas.Bool.Decides.{nat_tests}
+use Rattle.sbp_world.proofs.Words.Std.{arith, ◌≡◌, ◌⊎◌, inl, inr, refl, sym, ◌∙◌, ap, subst, ℕ, zero, suc, ◌+◌, ◌<◌, ◌≤◌, ◌==◌, ◌&&◌, nat_eq, nat_lt, not, Bool, true, false, cond, List, [], ◌∷◌, Option, Some, None, nat_tests}
+use Rattle.sbp_world.proofs.Words.Wire.{SerialsCount, AreSent, Moment, asked, said, Sending, part_of, Terms, terms, NoteBuffer}
+use Rattle.sbp_world.proofs.Words.Initiator.{start}
+use Rattle.sbp_world.proofs.Words.Laws.{Host, host_at, known_host, list_begins, ready_host, present_list, slot_at, lists, EachMoment, event_of}
+use Rattle.sbp_world.proofs.Words.World.{MayPoint, MayStand, pointer_write, list_if, pointed_list}
 use Rattle.bus_memory.specs.declared.window.Window.TheVariants as windows
-use Rattle.bus_memory.specs.Windows.{start}
-use Rattle.bus_transactions.specs.Packets.{SerialsCount}
-use Rattle.bus_transactions.specs.Sent.{AreSent}
-use Rattle.sbp_journal.specs.Run.{Moment, asked, said}
-use Rattle.sbp_journal.specs.Transactions.{Sending, part_of}
-use Rattle.sbp_journal.specs.Wire.{Terms, terms}
 use Rattle.sbp_journal.specs.declared.note.Note.TheVariants as notes
-use Rattle.sbp_journal.specs.declared.note.NoteBuffer.{NoteBuffer}
-use Rattle.sbp_laws.specs.Hosts.{Host, host_at, is_serial, known_host, list_begins, ready_host, sent_as}
-use Rattle.sbp_laws.specs.Lists.{present_list, slot_at}
-use Rattle.sbp_laws.specs.Terms.{lists}
-use Rattle.sbp_laws.specs.Turns.{EachMoment, event_of}
+use Rattle.sbp_laws.specs.Hosts.{is_serial, sent_as}
 use Rattle.sbp_world.proofs.Hosts.Cores.{wire_is}
 use Rattle.sbp_world.proofs.Hosts.Held.{sent_count, sent_new}
 use Rattle.sbp_world.proofs.Hosts.PointerNotes.{pointer}
 use Rattle.sbp_world.proofs.Hosts.Remaining.{serials_behind, step as one_later}
-use Rattle.sbp_world.specs.Pointers.Moments.{MayPoint, MayStand, pointer_write}
-use Rattle.sbp_world.specs.Pointers.Pointers.{IsNamed, list_if, pointed_list}
+use Rattle.sbp_world.specs.Pointers.Pointers.{IsNamed}
 use Rattle.sbp_world.proofs.Pointers.Ages.{moment_closes}
 use Rattle.sbp_world.proofs.Pointers.Names.{pointer_same}
 use Rattle.sbp_world.proofs.Pointers.Naming.{Follows, Naming, Plain, Points, asked_plain, link_plain, none_some, not_anew, other_append, other_drop, plain, points_on}

@@ -1,34 +1,14 @@
 -- The list that an initiator has is the present one by its run. It stays so in a delivery and in a time-out, where a list that is dropped is told of, and as a
 -- generation is seen.
-use Rattle.std.proofs.Common.{◌≡◌, refl, sym, ◌∙◌, ap, subst, ℕ, suc, ◌||◌, nat_eq, nat_lt, not, Bool, true, false, cond, List, [], ◌∷◌, ◌++◌, Option, Some, None}
-use Rattle.std.proofs.lemmas.Bool.{not-true}
-use Rattle.async_packet.specs.Labels.{LabelParts}
-use Rattle.label_table.specs.Layer.{Layer, seen_in_generation, seeing_step}
-use Rattle.orb_list.specs.declared.list.PresentList.{PresentList}
-use Rattle.orb_list.specs.Lists.{ListState, free_lists}
-use Rattle.orb_list.specs.Table.{free_all_step}
-use Rattle.sbp_bus.specs.Packets.{judged_note}
-use Rattle.sbp_journal.specs.Outgoings.{OutboxState, empty_outbox}
-use Rattle.sbp_journal.specs.Run.{Moment, said}
-use Rattle.sbp_journal.specs.declared.cause.Judged.{Judged}
+use Rattle.sbp_world.proofs.Words.Std.{◌≡◌, refl, sym, ◌∙◌, ap, subst, ℕ, suc, ◌||◌, nat_eq, nat_lt, not, Bool, true, false, cond, List, [], ◌∷◌, ◌++◌, Option, Some, None, not-true}
+use Rattle.sbp_world.proofs.Words.Wire.{LabelParts, Layer, seen_in_generation, seeing_step, judged_note, OutboxState, empty_outbox, Moment, said, Judged, Note, Side}
+use Rattle.sbp_world.proofs.Words.Initiator.{PresentList, ListState, free_lists, free_all_step, Purpose, Running, InitiatorState, Turn, drop_where, end_step, good_end, good_event, good_word, managed_step, moved, moves_session, response_of, then_step, expire_step, receive_step, ends_list, see_step, seen_as, is_list, Seat, Event, bad, goes}
+use Rattle.sbp_world.proofs.Words.Laws.{present_list}
+use Rattle.sbp_world.proofs.Words.World.{behind}
 use Rattle.sbp_journal.specs.declared.cause.Judged.TheVariants as judgements
-use Rattle.sbp_journal.specs.declared.note.Note.{Note}
 use Rattle.sbp_journal.specs.declared.note.Note.TheVariants as notes
 use Rattle.sbp_journal.specs.declared.operation.OpWord.TheVariants as words
-use Rattle.sbp_journal.specs.declared.side.Side.{Side}
 use Rattle.sbp_journal.specs.declared.side.Side.TheVariants as sides
-use Rattle.sbp_initiator.specs.declared.purpose.Purpose.{Purpose}
-use Rattle.sbp_initiator.specs.declared.purpose.Running.{Running}
-use Rattle.sbp_initiator.specs.declared.state.InitiatorState.{InitiatorState}
-use Rattle.sbp_initiator.specs.Effects.{Turn, drop_where, end_step, good_end, good_event, good_word, managed_step, moved, moves_session, response_of, then_step}
-use Rattle.sbp_initiator.specs.Receiving.{expire_step, receive_step}
-use Rattle.sbp_initiator.specs.Refusals.{ends_list}
-use Rattle.sbp_initiator.specs.Seeing.{see_step, seen_as}
-use Rattle.sbp_initiator.specs.States.{is_list}
-use Rattle.sbp_laws.specs.Lists.{present_list}
-use Rattle.sbp_session.specs.declared.seat.Seat.{Seat}
-use Rattle.sbp_session.specs.Moves.{Event, bad, goes}
-use Rattle.sbp_world.specs.Hosts.Calls.{behind}
 use Rattle.sbp_world.proofs.Hosts.Carries.{is_apart}
 use Rattle.sbp_world.proofs.Hosts.Layered.{AreTame, is_tame}
 use Rattle.sbp_world.proofs.Hosts.OrbTerms.{AreStill, is_left}

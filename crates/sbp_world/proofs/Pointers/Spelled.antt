@@ -1,25 +1,13 @@
 -- What the bytes of a request of a transaction layer say that it asks for.
-use Rattle.std.proofs.Common.{arith, ◌≡◌, refl, sym, ◌∙◌, ap, ℕ, suc, ◌+◌, ◌<◌, Bool, true, false, cond, List, [], ◌∷◌, length, Option, Some, None, Ok}
-use Rattle.std.proofs.lemmas.Option.{same_Some}
-use Rattle.async_packet.specs.Canon.{IsValid, canon}
-use Rattle.async_packet.specs.Packet.{Packet}
-use Rattle.async_packet.specs.Reading.{reading}
+use Rattle.sbp_world.proofs.Words.Std.{arith, ◌≡◌, refl, sym, ◌∙◌, ap, ℕ, suc, ◌+◌, ◌<◌, Bool, true, false, cond, List, [], ◌∷◌, length, Option, Some, None, Ok, same_Some}
+use Rattle.sbp_world.proofs.Words.Wire.{IsValid, canon, Packet, reading, Asked, Place, Body, block_read, block_write, header_to, quadlet_read, quadlet_write, request_with, relabelled, Layer, asked_at, asking_in, asking_step, peer_at, peer_place, unlabelled, begun_for, begin_at, begin_step, lowest_from, serves, with_label, access_of, IsLayer}
+use Rattle.sbp_world.proofs.Words.Initiator.{Purpose}
+use Rattle.sbp_world.proofs.Words.Laws.{access_in, access_in_bytes}
 use Rattle.async_packet.proofs.RoundTrip.{canon_spells}
 use Rattle.async_packet.proofs.Spelled.{reading_spelled}
-use Rattle.label_table.specs.declared.judgement.Asked.{Asked}
-use Rattle.label_table.specs.declared.place.Place.{Place}
-use Rattle.label_table.specs.Bodies.{Body, block_read, block_write, header_to, quadlet_read, quadlet_write, request_with}
-use Rattle.label_table.specs.Laws.{relabelled}
-use Rattle.label_table.specs.Layer.{Layer, asked_at, asking_in, asking_step, peer_at, peer_place, unlabelled}
-use Rattle.label_table.specs.Peers.{begun_for}
-use Rattle.label_table.specs.Table.{begin_at, begin_step, lowest_from, serves}
 use Rattle.label_table.proofs.Calls.{after_kept}
 use Rattle.label_table.proofs.Rewritten.{writes_labels}
-use Rattle.label_table.specs.Requests.{with_label}
-use Rattle.sbp_initiator.specs.declared.purpose.Purpose.{Purpose}
-use Rattle.sbp_journal.specs.Addresses.{access_of}
-use Rattle.sbp_laws.specs.Packets.{access_in, access_in_bytes, spelled_by as read_by}
-use Rattle.bus_transactions.specs.Fitting.{IsLayer}
+use Rattle.sbp_laws.specs.Packets.{spelled_by as read_by}
 
 -- whatever its header says
 pub same_access : (node peer n : ℕ) (body : Body) → access_of (relabelled n (request_with (header_to node peer 0) body)) ≡ access_of (request_with (header_to 0 0 0) body)

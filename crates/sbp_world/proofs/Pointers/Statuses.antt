@@ -1,25 +1,11 @@
 -- A request that drops a list is got.
-use Rattle.std.proofs.Common.{◌≡◌, refl, ℕ, ◌&&◌, Bool, true, false, cond, List, replicate, Option, Some, None, Result, Ok, Err}
-use Rattle.async_packet.specs.Packet.{Packet, lock, lock_response, read_block, read_block_response, read_quadlet, read_quadlet_response, write_block, write_quadlet, write_response}
-use Rattle.byteorder.specs.Endian.{big_bytes}
-use Rattle.bus_memory.specs.Access.{read_step}
-use Rattle.media_bay.specs.Unsolicited.{is_block}
-use Rattle.orb_layout.specs.declared.fault.OrbFault.{OrbFault}
-use Rattle.orb_layout.specs.declared.status.StatusBlock.{StatusBlock}
-use Rattle.orb_layout.specs.declared.status.StatusKind.{StatusKind}
+use Rattle.sbp_world.proofs.Words.Std.{◌≡◌, refl, ℕ, ◌&&◌, Bool, true, false, cond, List, replicate, Option, Some, None, Result, Ok, Err, big_bytes}
+use Rattle.sbp_world.proofs.Words.Wire.{Packet, lock, lock_response, read_block, read_block_response, read_quadlet, read_quadlet_response, write_block, write_quadlet, write_response, OutboxState, Judged}
+use Rattle.sbp_world.proofs.Words.Target.{is_block}
+use Rattle.sbp_world.proofs.Words.Initiator.{read_step, OrbFault, StatusBlock, StatusKind, ListState, take_lists, write_lists, TicketParts, Fifo, Running, InitiatorState, Turn, addressed, block_at, block_by, block_step, fifo_of, is_foreign, managed_for, present_for, quadlet_at, read_as, request_step, serve_step, status_step, taken_as, written_as, status_in}
 use Rattle.orb_layout.specs.declared.status.StatusKind.TheVariants as kinds
-use Rattle.orb_list.specs.Lists.{ListState, take_lists, write_lists}
-use Rattle.orb_list.specs.Tickets.{TicketParts}
-use Rattle.sbp_journal.specs.Outgoings.{OutboxState}
-use Rattle.sbp_journal.specs.declared.cause.Judged.{Judged}
 use Rattle.sbp_journal.specs.declared.cause.Judged.TheVariants as judgements
-use Rattle.initiator_base.specs.declared.fifos.Fifo.{Fifo}
 use Rattle.initiator_base.specs.declared.fifos.Fifo.TheVariants as fifos
-use Rattle.sbp_initiator.specs.declared.purpose.Running.{Running}
-use Rattle.sbp_initiator.specs.declared.state.InitiatorState.{InitiatorState}
-use Rattle.sbp_initiator.specs.Effects.{Turn}
-use Rattle.sbp_initiator.specs.Receiving.{addressed, block_at, block_by, block_step, fifo_of, is_foreign, managed_for, present_for, quadlet_at, read_as, request_step, serve_step, status_step, taken_as, written_as}
-use Rattle.sbp_initiator.specs.States.{status_in}
 use Rattle.sbp_world.proofs.Pointers.Dropping.{drops_of}
 
 -- it is got, or tells of no drop

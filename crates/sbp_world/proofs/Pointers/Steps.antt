@@ -1,23 +1,12 @@
 -- What an action tells: the steps of its initiator's list, of which an append stands first.
-use Rattle.std.proofs.Common.{arith, ◌≡◌, refl, sym, ◌∙◌, ap, subst, ℕ, zero, suc, ◌==◌, nat_eq, not, Bool, true, false, cond, List, [], ◌∷◌, ◌++◌, Some}
-use Rattle.std.proofs.lemmas.Bool.Decides.{nat_tests}
-use Rattle.std.specs.List.{AllByRecursion}
-use Rattle.sbp_journal.specs.Run.{Moment, said}
-use Rattle.sbp_journal.specs.Wire.{terms}
-use Rattle.sbp_journal.specs.declared.event.Action.{Action}
+use Rattle.sbp_world.proofs.Words.Std.{arith, ◌≡◌, refl, sym, ◌∙◌, ap, subst, ℕ, zero, suc, ◌==◌, nat_eq, not, Bool, true, false, cond, List, [], ◌∷◌, ◌++◌, Some, nat_tests, AllByRecursion}
+use Rattle.sbp_world.proofs.Words.Wire.{Moment, said, terms, Action, Note, NoteBuffer}
+use Rattle.sbp_world.proofs.Words.Initiator.{is_list_step, prepares, rings, own}
+use Rattle.sbp_world.proofs.Words.Laws.{action_notes, buffer_of, cuts_list, link_notes, new_list, new_number, running_operation, Host, host_at, list_begins, lowest_vacant, present_list, slot_at, slots, event_of}
+use Rattle.sbp_world.proofs.Words.World.{behind, is_cutting}
 use Rattle.sbp_journal.specs.declared.event.Action.TheVariants as actions
-use Rattle.sbp_journal.specs.declared.note.Note.{Note}
 use Rattle.sbp_journal.specs.declared.note.Note.TheVariants as notes
-use Rattle.sbp_journal.specs.declared.note.NoteBuffer.{NoteBuffer}
-use Rattle.sbp_initiator.specs.Refusals.{is_list_step, prepares, rings}
-use Rattle.sbp_laws.specs.Actions.{action_notes, buffer_of, cuts_list, link_notes, new_list, new_number, running_operation}
-use Rattle.sbp_laws.specs.Hosts.{Host, host_at, list_begins}
-use Rattle.sbp_laws.specs.Lists.{lowest_vacant, present_list, slot_at, slots}
-use Rattle.sbp_laws.specs.Turns.{event_of}
-use Rattle.sbp_initiator.specs.Histories.Ends.{own}
-use Rattle.sbp_world.specs.Hosts.Calls.{behind}
 use Rattle.sbp_world.proofs.Hosts.OrbTerms.{AreLeft}
-use Rattle.sbp_world.specs.Pointers.Moments.{is_cutting}
 use Rattle.sbp_world.proofs.Pointers.Passing.{AreApart, Stand}
 use Rattle.sbp_world.proofs.Common.{same_number, untrue}
 

@@ -1,33 +1,15 @@
 -- The request of an action is one of those that are under way behind it, and a later generation leaves none.
-use Rattle.std.proofs.Common.{arith, ◌≡◌, refl, sym, ◌∙◌, ap, subst, ℕ, suc, ◌+◌, ◌≤◌, ◌==◌, ◌&&◌, nat_eq, nat_lt, not, Bool, true, false, cond, List, [], ◌∷◌, Option, Some, None}
-use Rattle.bus_transactions.specs.Wire.{transaction}
+use Rattle.sbp_world.proofs.Words.Std.{arith, ◌≡◌, refl, sym, ◌∙◌, ap, subst, ℕ, suc, ◌+◌, ◌≤◌, ◌==◌, ◌&&◌, nat_eq, nat_lt, not, Bool, true, false, cond, List, [], ◌∷◌, Option, Some, None}
+use Rattle.sbp_world.proofs.Words.Wire.{transaction, not_begun, under_way, ReplyKind, Layer, seen_in_generation, seeing_step, empty_outbox, Moment, said, Sending, Transaction, begun_by, between, part_of, Terms, kind_in, terms, Action, Outgoing}
+use Rattle.sbp_world.proofs.Words.Initiator.{Demand, Purpose, InitiatorState, counted_list, demand_of, ring_demand, Turn, new_state, interrupted, resets_told, see_step, seen_as, is_unwritten, wanted_body}
+use Rattle.sbp_world.proofs.Words.Laws.{host_at, told_of, present_list, event_of}
+use Rattle.sbp_world.proofs.Words.World.{behind, asked_in, is_state, names_answered, own_action, state_list}
 use Rattle.bus_transactions.proofs.Facts.{asked_begun, request_asked}
-use Rattle.label_table.specs.History.{not_begun, under_way}
-use Rattle.label_table.specs.declared.reply.ReplyKind.{ReplyKind}
-use Rattle.label_table.specs.Layer.{Layer, seen_in_generation, seeing_step}
-use Rattle.sbp_journal.specs.Outgoings.{empty_outbox}
-use Rattle.sbp_journal.specs.Run.{Moment, said}
-use Rattle.sbp_journal.specs.Transactions.{Sending, Transaction, begun_by, between, part_of}
-use Rattle.sbp_journal.specs.Wire.{Terms, kind_in, terms}
-use Rattle.sbp_journal.specs.declared.event.Action.{Action}
 use Rattle.sbp_journal.specs.declared.event.Action.TheVariants as actions
 use Rattle.sbp_journal.specs.declared.event.Event.TheVariants as events
 use Rattle.sbp_journal.specs.declared.note.Note.TheVariants as notes
-use Rattle.sbp_journal.specs.declared.outbox.Outgoing.{Outgoing}
-use Rattle.sbp_initiator.specs.declared.purpose.Demand.{Demand}
-use Rattle.sbp_initiator.specs.declared.purpose.Purpose.{Purpose}
 use Rattle.sbp_initiator.specs.declared.purpose.Purpose.TheVariants as purposes
-use Rattle.sbp_initiator.specs.declared.state.InitiatorState.{InitiatorState}
-use Rattle.sbp_initiator.specs.Acting.{counted_list, demand_of, ring_demand}
-use Rattle.sbp_initiator.specs.Effects.{Turn}
-use Rattle.sbp_initiator.specs.Initiators.{new_state}
-use Rattle.sbp_initiator.specs.Seeing.{interrupted, resets_told, see_step, seen_as}
-use Rattle.sbp_initiator.specs.States.{is_unwritten, wanted_body}
-use Rattle.sbp_laws.specs.Hosts.{host_at, told_of}
-use Rattle.sbp_laws.specs.Lists.{present_list}
-use Rattle.sbp_laws.specs.Turns.{event_of}
 use Rattle.sbp_initiator.proofs.Histories.Effects.{list_drops}
-use Rattle.sbp_world.specs.Hosts.Calls.{behind}
 use Rattle.sbp_world.proofs.Hosts.ActLeft.{ActLeft, HasAsked}
 use Rattle.sbp_world.proofs.Hosts.Aimed.{IsAimed, aimed_carried}
 use Rattle.sbp_world.proofs.Hosts.Asked.{IsRequest, number_in}
@@ -36,7 +18,6 @@ use Rattle.sbp_world.proofs.Hosts.Lives.{At, AskedAt, Called, ask_at, asked_now,
 use Rattle.sbp_world.proofs.Hosts.PointerNotes.{Fit, Told, tame_told}
 use Rattle.sbp_world.proofs.Hosts.Pointing.{asked_generation, sent_waits}
 use Rattle.sbp_world.proofs.Hosts.Shown.{IsShown}
-use Rattle.sbp_world.specs.Pointers.Moments.{asked_in, is_state, names_answered, own_action, state_list}
 use Rattle.sbp_world.proofs.Pointers.Waits.{AskedFor, Asks, asked_sent, asked_told, counted_in, is_cared, makes, state_sent, state_told, still_asks}
 use Rattle.sbp_world.proofs.Common.{itself, cond_on, none_is as none_demand, untrue}
 

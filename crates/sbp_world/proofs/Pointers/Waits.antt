@@ -1,30 +1,15 @@
 -- A request of an AGENT_RESET or of a read of AGENT_STATE that is under way: the bus knows it under its label, it was sent in the line of such an
 -- action, and a read that counts for a list tells of it.
-use Rattle.std.proofs.Common.{arith, ◌≡◌, refl, sym, ◌∙◌, ap, ℕ, zero, suc, ◌+◌, ◌≤◌, ◌==◌, nat_eq, not, Bool, true, false, cond, List, [], ◌∷◌, Option, Some, None}
-use Rattle.std.proofs.lemmas.Bool.Decides.{nat_tests}
-use Rattle.std.proofs.lemmas.Bool.{not-true}
-use Rattle.bus_transactions.specs.Rows.{awaits, shape, shape_of}
-use Rattle.bus_transactions.specs.Wire.{transaction}
-use Rattle.label_table.specs.declared.reply.ReplyKind.{ReplyKind}
-use Rattle.label_table.specs.Layer.{Layer}
-use Rattle.label_table.specs.Peers.{state_for}
-use Rattle.sbp_journal.specs.Run.{Moment, asked, said}
-use Rattle.sbp_journal.specs.Transactions.{Kind, Sending, Transaction}
-use Rattle.sbp_journal.specs.Wire.{Held, Terms, terms, waits}
-use Rattle.sbp_journal.specs.declared.cause.Judged.{Judged}
+use Rattle.sbp_world.proofs.Words.Std.{arith, ◌≡◌, refl, sym, ◌∙◌, ap, ℕ, zero, suc, ◌+◌, ◌≤◌, ◌==◌, nat_eq, not, Bool, true, false, cond, List, [], ◌∷◌, Option, Some, None, nat_tests, not-true}
+use Rattle.sbp_world.proofs.Words.Wire.{awaits, shape, shape_of, transaction, ReplyKind, Layer, state_for, Moment, asked, said, Kind, Sending, Transaction, Held, Terms, terms, waits, Judged, Action, Event, Note, Side, judged_note}
+use Rattle.sbp_world.proofs.Words.Initiator.{Purpose}
+use Rattle.sbp_world.proofs.Words.World.{behind, asked_in, state_list}
 use Rattle.sbp_journal.specs.declared.cause.Judged.TheVariants as judgements
-use Rattle.sbp_journal.specs.declared.event.Action.{Action}
 use Rattle.sbp_journal.specs.declared.event.Action.TheVariants as actions
-use Rattle.sbp_journal.specs.declared.event.Event.{Event}
-use Rattle.sbp_journal.specs.declared.note.Note.{Note}
 use Rattle.sbp_journal.specs.declared.note.Note.TheVariants as notes
-use Rattle.sbp_journal.specs.declared.side.Side.{Side}
 use Rattle.sbp_journal.specs.declared.side.Side.TheVariants as sides
-use Rattle.sbp_bus.specs.Packets.{judged_note}
-use Rattle.sbp_initiator.specs.declared.purpose.Purpose.{Purpose}
 use Rattle.sbp_initiator.specs.declared.purpose.Purpose.TheVariants as purposes
 use Rattle.sbp_world.proofs.Wire.Agrees.{got_agrees, ignored_agrees, timed_agrees}
-use Rattle.sbp_world.specs.Hosts.Calls.{behind}
 use Rattle.sbp_world.proofs.Hosts.Carries.{is_apart}
 use Rattle.sbp_world.proofs.Hosts.Held.{got_waits, ignored_quiet, sent_count, timed_waits}
 use Rattle.sbp_world.proofs.Hosts.Layered.{AreTame, LayerLeft, is_tame, read, same}
@@ -32,7 +17,6 @@ use Rattle.sbp_world.proofs.Hosts.Lives.{At, AskedAt, Called, ask_at, asked_now,
 use Rattle.sbp_world.proofs.Hosts.PointerNotes.{Fit, opens, tame_told}
 use Rattle.sbp_world.proofs.Hosts.Pointing.{asked_generation, at_same, sent_waits}
 use Rattle.sbp_world.proofs.Hosts.Shown.{IsShown}
-use Rattle.sbp_world.specs.Pointers.Moments.{asked_in, state_list}
 use Rattle.sbp_world.proofs.Common.{cond_off, least, untrue}
 
 -- what such a request is for, and the action that makes it

@@ -1,55 +1,20 @@
 -- What a delivery and a time-out make of an initiator, by a property of what was told, of its session and of its lists: one that those moves of the session keep
 -- that end no operation of management with a status, all steps of lists but those that prepare an ORB, and every note; and where a list is dropped, none is
 -- left. The end of an operation of management by a status block is asked for apart.
-use Rattle.std.proofs.Common.{◌≡◌, refl, ap, ℕ, ◌==◌, ◌&&◌, nat_eq, Bool, true, false, cond, List, [], ◌∷◌, ◌++◌, replicate, Option, Some, None, Result, Ok, Err}
-use Rattle.byteorder.specs.Endian.{big_bytes}
-use Rattle.async_packet.specs.Labels.{LabelParts}
-use Rattle.async_packet.specs.Packet.{Packet, header_in, lock, lock_response, read_block, read_block_response, read_quadlet, read_quadlet_response, write_block, write_quadlet, write_response}
-use Rattle.bus_memory.specs.Access.{read_step}
-use Rattle.config_rom.specs.declared.fault.RomFault.{RomFault}
-use Rattle.config_rom.specs.declared.unit.SbpUnit.{SbpUnit}
-use Rattle.config_rom.specs.Reading.{Tree, reading}
-use Rattle.config_rom.specs.Unit.{sbp_unit_of}
-use Rattle.label_table.specs.declared.judgement.Asked.{Asked}
-use Rattle.label_table.specs.declared.reply.Stale.{Stale}
-use Rattle.label_table.specs.Layer.{Finding, Layer, answering_step, asking_step, expiring_step, judging_step, of_again, of_generation, of_grammar, of_label, of_request, of_response}
-use Rattle.media_bay.specs.Unsolicited.{is_block}
-use Rattle.orb_layout.specs.declared.fault.OrbFault.{OrbFault}
-use Rattle.orb_layout.specs.declared.status.StatusBlock.{StatusBlock}
-use Rattle.orb_layout.specs.declared.status.StatusKind.{StatusKind}
+use Rattle.sbp_world.proofs.Words.Std.{◌≡◌, refl, ap, ℕ, ◌==◌, ◌&&◌, nat_eq, Bool, true, false, cond, List, [], ◌∷◌, ◌++◌, replicate, Option, Some, None, Result, Ok, Err, big_bytes}
+use Rattle.sbp_world.proofs.Words.Wire.{LabelParts, Packet, header_in, lock, lock_response, read_block, read_block_response, read_quadlet, read_quadlet_response, write_block, write_quadlet, write_response, Asked, Stale, Finding, Layer, answering_step, asking_step, expiring_step, judging_step, of_again, of_generation, of_grammar, of_label, of_request, of_response, Judged, Note, Operation, OpWord, Side, OutboxState, empty_outbox}
+use Rattle.sbp_world.proofs.Words.Target.{RomFault, SbpUnit, Tree, reading, sbp_unit_of, is_block}
+use Rattle.sbp_world.proofs.Words.Initiator.{read_step, OrbFault, StatusBlock, StatusKind, PresentList, ListState, drop_lists, take_lists, unpin_lists, write_lists, drop_for, drop_step, TicketParts, Fifo, is_dead_kind, with_quad, Ending, Purpose, Running, InitiatorState, Turn, ask_quad, asked_quad, conflict_for, conflict_step, doorbell_ended, drop_list_step, dropped_as, enable_ended, end_own_for, end_own_step, end_step, ended_for, ended_step, fail_step, fault_number, finish_rom, is_address, is_conflict, known_where, managed_step, management_ended, moved, moves_session, next_quad, pointer_ended, quad_got, reset_ended, rom_ended, state_ended, stick_step, told, with_answered, with_dead, with_rom, with_unit, addressed, answer_of, block_at, block_by, block_step, called, expire_step, expired_as, fifo_of, got_step, ignored_step, is_foreign, managed_for, present_for, quadlet_at, read_as, receive_step, received, request_step, respond_step, responded_as, serve_step, status_step, taken_as, taken_by, written_as, counts_for, ending_of, is_list, is_present_orb, status_in, Seat, Event, bad, conflict, entered, failed, goes, good, pointed, reset, is_stuck_seat}
 use Rattle.orb_layout.specs.declared.status.StatusKind.TheVariants as kinds
-use Rattle.orb_list.specs.declared.list.PresentList.{PresentList}
-use Rattle.orb_list.specs.Lists.{ListState, drop_lists, take_lists, unpin_lists, write_lists}
-use Rattle.orb_list.specs.Table.{drop_for, drop_step}
-use Rattle.orb_list.specs.Tickets.{TicketParts}
 use Rattle.sbp_journal.specs.declared.cause.Cause.TheVariants as ignored
-use Rattle.sbp_journal.specs.declared.cause.Judged.{Judged}
-use Rattle.sbp_journal.specs.declared.note.Note.{Note}
 use Rattle.sbp_journal.specs.declared.note.Note.TheVariants as notes
-use Rattle.sbp_journal.specs.declared.operation.Operation.{Operation}
 use Rattle.sbp_journal.specs.declared.operation.Operation.TheVariants as operations
-use Rattle.sbp_journal.specs.declared.operation.OpWord.{OpWord}
 use Rattle.sbp_journal.specs.declared.operation.OpWord.TheVariants as words
-use Rattle.sbp_journal.specs.declared.side.Side.{Side}
 use Rattle.sbp_journal.specs.declared.side.Side.TheVariants as sides
-use Rattle.sbp_journal.specs.Outgoings.{OutboxState, empty_outbox}
-use Rattle.initiator_base.specs.declared.fifos.Fifo.{Fifo}
 use Rattle.initiator_base.specs.declared.fifos.Fifo.TheVariants as fifos
-use Rattle.initiator_base.specs.Fifos.{is_dead_kind}
-use Rattle.initiator_base.specs.Quads.{with_quad}
 use Rattle.sbp_initiator.proofs.Histories.Effects.{unpin_present}
-use Rattle.sbp_initiator.specs.declared.purpose.Ending.{Ending}
 use Rattle.sbp_initiator.specs.declared.purpose.Ending.TheVariants as endings
-use Rattle.sbp_initiator.specs.declared.purpose.Purpose.{Purpose}
 use Rattle.sbp_initiator.specs.declared.purpose.Purpose.TheVariants as purposes
-use Rattle.sbp_initiator.specs.declared.purpose.Running.{Running}
-use Rattle.sbp_initiator.specs.declared.state.InitiatorState.{InitiatorState}
-use Rattle.sbp_initiator.specs.Effects.{Turn, ask_quad, asked_quad, conflict_for, conflict_step, doorbell_ended, drop_list_step, dropped_as, enable_ended, end_own_for, end_own_step, end_step, ended_for, ended_step, fail_step, fault_number, finish_rom, is_address, is_conflict, known_where, managed_step, management_ended, moved, moves_session, next_quad, pointer_ended, quad_got, reset_ended, rom_ended, state_ended, stick_step, told, with_answered, with_dead, with_rom, with_unit}
-use Rattle.sbp_initiator.specs.Receiving.{addressed, answer_of, block_at, block_by, block_step, called, expire_step, expired_as, fifo_of, got_step, ignored_step, is_foreign, managed_for, present_for, quadlet_at, read_as, receive_step, received, request_step, respond_step, responded_as, serve_step, status_step, taken_as, taken_by, written_as}
-use Rattle.sbp_initiator.specs.States.{counts_for, ending_of, is_list, is_present_orb, status_in}
-use Rattle.sbp_session.specs.declared.seat.Seat.{Seat}
-use Rattle.sbp_session.specs.Moves.{Event, bad, conflict, entered, failed, goes, good, pointed, reset}
-use Rattle.sbp_session.specs.Seats.{is_stuck_seat}
 use Rattle.sbp_world.proofs.Pointers.PendHears.{SameList, take_list, write_list}
 
 -- the moves that end no operation by a status, and see no reset

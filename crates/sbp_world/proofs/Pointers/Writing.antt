@@ -1,20 +1,13 @@
 -- For which list each ORB_POINTER was written, moment by moment.
-use Rattle.std.proofs.Common.{arith, ◌≡◌, refl, sym, ◌∙◌, ap, subst, ℕ, zero, suc, ◌<◌, ◌≤◌, ◌==◌, nat_eq, is_some, Bool, true, false, cond, List, ◌∷◌, Some, None}
-use Rattle.std.proofs.lemmas.Bool.Decides.{nat_tests}
-use Rattle.bus_transactions.specs.Packets.{SerialsCount}
-use Rattle.sbp_journal.specs.Run.{Moment, said}
-use Rattle.sbp_journal.specs.Wire.{terms}
+use Rattle.sbp_world.proofs.Words.Std.{arith, ◌≡◌, refl, sym, ◌∙◌, ap, subst, ℕ, zero, suc, ◌<◌, ◌≤◌, ◌==◌, nat_eq, is_some, Bool, true, false, cond, List, ◌∷◌, Some, None, nat_tests}
+use Rattle.sbp_world.proofs.Words.Wire.{SerialsCount, Moment, said, terms, NoteBuffer}
+use Rattle.sbp_world.proofs.Words.Laws.{Host, host_at, list_begins, linked, lowest_vacant, present_list, slot_at, slots, lists}
+use Rattle.sbp_world.proofs.Words.World.{MayAppend, MayDrop, MayStand, begun_in}
 use Rattle.sbp_journal.specs.declared.note.Note.TheVariants as notes
-use Rattle.sbp_journal.specs.declared.note.NoteBuffer.{NoteBuffer}
-use Rattle.sbp_laws.specs.Hosts.{Host, host_at, list_begins}
-use Rattle.sbp_laws.specs.Lists.{linked, lowest_vacant, present_list, slot_at, slots}
-use Rattle.sbp_laws.specs.Terms.{lists}
 use Rattle.sbp_world.proofs.Hosts.PointerNotes.{pointer}
 use Rattle.sbp_world.proofs.Hosts.Remaining.{remains, step}
-use Rattle.sbp_world.specs.Pointers.Moments.{MayAppend, MayDrop, MayStand}
 use Rattle.sbp_world.proofs.Pointers.Ages.{is_sight, moment_closes, moment_generation, seen_now}
 use Rattle.sbp_world.proofs.Pointers.Names.{append_none, drop_none}
-use Rattle.sbp_world.specs.Pointers.Pointers.{begun_in}
 use Rattle.sbp_world.proofs.Pointers.Naming.{Follows, Naming, Plain, none_some, not_anew, plain_follows, plain_names, points_on}
 use Rattle.sbp_world.proofs.Common.{cond_on, untrue, cond_off, itself, least}
 

@@ -1,23 +1,14 @@
 -- What each write of an initiator is, by its packet.
-use Rattle.std.proofs.Common.{arith, ◌≡◌, refl, sym, ◌∙◌, ap, subst, ℕ, zero, suc, ◌==◌, nat_eq, Bool, true, false, cond, List, [], ◌∷◌, Option, Some, None}
-use Rattle.std.proofs.lemmas.Bool.Decides.{nat_tests}
-use Rattle.std.proofs.lemmas.Option.{same_Some}
-use Rattle.sbp_journal.specs.Addresses.{Access}
-use Rattle.sbp_journal.specs.Run.{Moment, asked, said}
-use Rattle.sbp_journal.specs.Transactions.{Sending}
-use Rattle.sbp_journal.specs.Wire.{terms}
-use Rattle.sbp_journal.specs.declared.event.Action.{Action}
+use Rattle.sbp_world.proofs.Words.Std.{arith, ◌≡◌, refl, sym, ◌∙◌, ap, subst, ℕ, zero, suc, ◌==◌, nat_eq, Bool, true, false, cond, List, [], ◌∷◌, Option, Some, None, nat_tests, same_Some}
+use Rattle.sbp_world.proofs.Words.Wire.{Access, Moment, asked, said, Sending, terms, Action, Event}
+use Rattle.sbp_world.proofs.Words.Laws.{host_at, access_in_bytes, EachMoment, event_of}
+use Rattle.sbp_world.proofs.Words.World.{MayAsk, MaySend, MayStand, MayWrite, asked_in, own_action, writes_bell, writes_enable, writes_management, writes_pointer, writes_reset, IsWrite, of_bell, of_enable, of_management, of_pointer, of_reset, pointed_list}
 use Rattle.sbp_journal.specs.declared.event.Action.TheVariants as actions
-use Rattle.sbp_journal.specs.declared.event.Event.{Event}
 use Rattle.sbp_journal.specs.declared.event.Event.TheVariants as events
 use Rattle.sbp_journal.specs.declared.note.Note.TheVariants as notes
-use Rattle.sbp_laws.specs.Hosts.{host_at}
-use Rattle.sbp_laws.specs.Packets.{access_in_bytes}
-use Rattle.sbp_laws.specs.Turns.{EachMoment, event_of}
 use Rattle.sbp_world.proofs.Hosts.Carries.{IsNoAct}
 use Rattle.sbp_world.proofs.Hosts.Held.{sent_new, sent_old}
-use Rattle.sbp_world.specs.Pointers.Moments.{IsWritten, MayAsk, MaySend, MayStand, MayWrite, asked_in, own_action, writes_bell, writes_enable, writes_management, writes_pointer, writes_reset}
-use Rattle.sbp_world.specs.Pointers.Pointers.{IsWrite, of_bell, of_enable, of_management, of_pointer, of_reset, pointed_list}
+use Rattle.sbp_world.specs.Pointers.Moments.{IsWritten}
 use Rattle.sbp_world.proofs.Pointers.Ages.{is_leaving, moment_sent}
 use Rattle.sbp_world.proofs.Pointers.Calms.{AllCalm, Calm}
 use Rattle.sbp_world.proofs.Pointers.Quiet.{writes_in}

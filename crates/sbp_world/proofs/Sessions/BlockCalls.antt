@@ -1,13 +1,7 @@
 -- Each packet that a target hands out in a call has a tcode other than 0: an answer, and what it asks for behind that, or as a transaction ends.
-use Rattle.std.proofs.Common.{ℕ, List, Option}
-use Rattle.async_packet.specs.Labels.{LabelParts}
-use Rattle.rbc_disk.specs.Disk.{Disk}
-use Rattle.rbc_disk.specs.Runs.{Told}
-use Rattle.sbp_journal.specs.Outgoings.{empty_outbox}
-use Rattle.sbp_target.specs.Histories.Moves.{Moves, free}
-use Rattle.sbp_target.specs.Nodes.{NodeState, Scene, scene}
-use Rattle.sbp_target.specs.Receiving.{expired, received, seen, ticked}
-use Rattle.sbp_target.specs.Replies.{whole}
+use Rattle.sbp_world.proofs.Words.Std.{ℕ, List, Option}
+use Rattle.sbp_world.proofs.Words.Wire.{LabelParts, empty_outbox}
+use Rattle.sbp_world.proofs.Words.Target.{Disk, Told, Moves, free, NodeState, Scene, scene, expired, received, seen, ticked, whole}
 use Rattle.sbp_target.proofs.Histories.Views as moves
 use Rattle.sbp_world.proofs.Hosts.TargetGives.{gives}
 use Rattle.sbp_world.proofs.Sessions.Blocking.{AllCoded, mild_coded}

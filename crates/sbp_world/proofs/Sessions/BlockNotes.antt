@@ -1,21 +1,15 @@
 -- What notes and packets leave of the writes of a history: whichever packet of the target a history has, where it writes, it writes a block.
-use Rattle.std.proofs.Common.{◌≡◌, ◌∙◌, refl, sym, ap, subst, ℕ, suc, nat_eq, Bool, true, false, cond, List, [], ◌∷◌, Option, Some, None}
+use Rattle.sbp_world.proofs.Words.Std.{◌≡◌, ◌∙◌, refl, sym, ap, subst, ℕ, suc, nat_eq, Bool, true, false, cond, List, [], ◌∷◌, Option, Some, None}
+use Rattle.sbp_world.proofs.Words.Wire.{judged_note, Moment, asked, said, Kind, Part, Sending, Transaction, part_of, request, response, Held, Terms, arrives, closes, closes_if, free, gets, gets_as, ignores, ignores_that, is_news, is_served, judges, judges_if, noted, opened, rests, terms, times_out, waits, Cause, Judged, Event, Note}
+use Rattle.sbp_world.proofs.Words.Laws.{access_in_bytes, packet_in, access_in, receiver_in}
+use Rattle.sbp_world.proofs.Words.World.{AreBlocks, IsBlockWrite, IsTargetBlock, SentBlocks}
 use Rattle.sbp_world.proofs.Hosts.Layered.{is_tame}
-use Rattle.sbp_bus.specs.Packets.{judged_note}
-use Rattle.sbp_journal.specs.Run.{Moment, asked, said}
-use Rattle.sbp_journal.specs.Transactions.{Kind, Part, Sending, Transaction, no_packet, part_of, request, response}
-use Rattle.sbp_journal.specs.Wire.{Held, Terms, arrives, closes, closes_if, free, gets, gets_as, ignores, ignores_that, is_news, is_served, judges, judges_if, noted, opened, rests, terms, times_out, waits}
-use Rattle.sbp_journal.specs.declared.cause.Cause.{Cause}
+use Rattle.sbp_journal.specs.Transactions.{no_packet}
 use Rattle.sbp_journal.specs.declared.cause.Cause.TheVariants as causes
-use Rattle.sbp_journal.specs.declared.cause.Judged.{Judged}
 use Rattle.sbp_journal.specs.declared.cause.Judged.TheVariants as judgements
-use Rattle.sbp_journal.specs.declared.event.Event.{Event}
 use Rattle.sbp_journal.specs.declared.event.Event.TheVariants as events
-use Rattle.sbp_journal.specs.declared.note.Note.{Note}
 use Rattle.sbp_journal.specs.declared.note.Note.TheVariants as notes
 use Rattle.sbp_laws.specs.Hosts.{is_serial}
-use Rattle.sbp_laws.specs.Packets.{access_in_bytes, packet_in, access_in, receiver_in}
-use Rattle.sbp_world.specs.Sessions.Blocks.{AreBlocks, IsBlockWrite, IsTargetBlock, SentBlocks}
 use Rattle.sbp_world.proofs.Common.{untrue, none_is}
 use Rattle.sbp_world.proofs.Hosts.Held.{sends_sent}
 

@@ -1,6 +1,6 @@
 -- What a target sends has a tcode other than 0: none of it writes a quadlet.
-use Rattle.std.proofs.Common.{List, [], ◌∷◌}
-use Rattle.sbp_journal.specs.declared.outbox.Outgoing.{Outgoing}
+use Rattle.sbp_world.proofs.Words.Std.{List, [], ◌∷◌}
+use Rattle.sbp_world.proofs.Words.Wire.{Outgoing}
 use Rattle.sbp_world.proofs.Hosts.Mild.{AreMild}
 use Rattle.sbp_world.proofs.Sessions.Codes.{HasCode}
 

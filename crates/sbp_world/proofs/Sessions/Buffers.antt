@@ -1,28 +1,15 @@
 -- The response buffers that the run says an initiator has, and those in its memory: a block write into one is stored in both.
-use Rattle.std.proofs.Common.{arith, ◌≡◌, ◌≢◌, ◌∙◌, refl, sym, ap, subst, ℕ, suc, ◌+◌, ◌-◌, ◌*◌, ◌^◌, ◌%◌, ◌<◌, ◌≤◌, ◌==◌, ◌&&◌, ◌||◌, not, nat_eq, nat_lt, nat_le, Bool, true, false, cond, List, [], ◌∷◌, ◌++◌, length, Option, Some, None, Result, Ok, Err}
-use Rattle.std.specs.Prelude.{slice_index_or, slice_set, take, drop}
-use Rattle.std.proofs.lemmas.Bool.Decides.{nat_tests}
-use Rattle.std.proofs.lemmas.Grind.{get_or-set_at}
-use Rattle.std.proofs.lemmas.List.{get_or-set_other, length-set, set-get_or, take-append-drop}
+use Rattle.sbp_world.proofs.Words.Std.{arith, ◌≡◌, ◌≢◌, ◌∙◌, refl, sym, ap, subst, ℕ, suc, ◌+◌, ◌-◌, ◌*◌, ◌^◌, ◌%◌, ◌<◌, ◌≤◌, ◌==◌, ◌&&◌, ◌||◌, not, nat_eq, nat_lt, nat_le, Bool, true, false, cond, List, [], ◌∷◌, ◌++◌, length, Option, Some, None, Result, Ok, Err, slice_index_or, slice_set, nat_tests, get_or-set_at, get_or-set_other, set-get_or, take-append-drop}
+use Rattle.sbp_world.proofs.Words.Wire.{Access}
+use Rattle.sbp_world.proofs.Words.Initiator.{Rcode, TypeError, Spot, PlaceMemory, Window, judged, judged_at, serves, spot_in, spot_of, takes_writes, write_at, write_step, IsWhole, Memory, empty_place, patch, place_at, with_bytes, IfShare, is_fifo, start, window_at, Fifo, fifo_at, is_login_fifo, is_open_login, login_fifo, place_fifo}
+use Rattle.sbp_world.proofs.Words.Laws.{stored_in}
+use Rattle.sbp_world.proofs.Words.World.{AreBuffers}
+use Rattle.std.specs.Prelude.{take, drop}
+use Rattle.std.proofs.lemmas.List.{length-set}
 use Rattle.bus_memory.specs.declared.access.Access.TheVariants.{Write}
-use Rattle.bus_memory.specs.declared.access.Rcode.{Rcode}
-use Rattle.bus_memory.specs.declared.access.Rcode.TheVariants.{TypeError}
-use Rattle.bus_memory.specs.declared.access.Spot.{Spot}
-use Rattle.bus_memory.specs.declared.slot.PlaceMemory.{PlaceMemory}
-use Rattle.bus_memory.specs.declared.window.Window.{Window}
 use Rattle.bus_memory.specs.declared.window.Window.TheVariants as windows
-use Rattle.bus_memory.specs.Access.{judged, judged_at, serves, spot_in, spot_of, takes_writes, write_at, write_step}
-use Rattle.bus_memory.specs.Laws.{IsWhole}
-use Rattle.bus_memory.specs.Memory.{Memory, empty_place, patch, place_at, with_bytes}
-use Rattle.bus_memory.specs.Windows.{IfShare, is_fifo, start, window_at}
 use Rattle.bus_memory.proofs.Found.{window_share}
-use Rattle.initiator_base.specs.declared.fifos.Fifo.{Fifo}
 use Rattle.initiator_base.specs.declared.fifos.Fifo.TheVariants as fifos
-use Rattle.initiator_base.specs.Fifos.{fifo_at, is_login_fifo, is_open_login}
-use Rattle.initiator_base.specs.Places.{login_fifo, place_fifo}
-use Rattle.sbp_journal.specs.Addresses.{Access}
-use Rattle.sbp_laws.specs.Hosts.{stored_in}
-use Rattle.sbp_world.specs.Sessions.Holding.{AreBuffers}
 use Rattle.sbp_world.proofs.Sessions.Places.{Stand}
 use Rattle.sbp_world.proofs.Common.{untrue}
 

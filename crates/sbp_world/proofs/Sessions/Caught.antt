@@ -1,27 +1,13 @@
 -- A node that has caught up with the target: it has an ID, as the target knows the nodes, and is in the target's generation or in a later one. What is kept
 -- of a world is that the target knows such nodes alone, and that an initiator whose session is live or is being left, or that has a list, is in a generation that
 -- the target has seen.
-use Rattle.std.proofs.Common.{is_some, arith, ◌≡◌, ◌∙◌, refl, sym, ap, subst, ℕ, suc, ◌<◌, ◌≤◌, ◌&&◌, nat_eq, nat_lt, nat_le, Bool, true, false, List, length, Option, Some, None}
-use Rattle.std.specs.Prelude.{slice_index_or}
-use Rattle.std.proofs.lemmas.Bool.Decides.{nat_tests}
-use Rattle.std.proofs.lemmas.List.{get_or-set_other, set_past}
-use Rattle.std.proofs.lemmas.Grind.{get_or-set_at}
-use Rattle.std.proofs.lemmas.Bool.{false≢true}
-use Rattle.orb_layout.specs.declared.login.LoginResponse.{LoginResponse}
-use Rattle.orb_list.specs.Lists.{ListState}
-use Rattle.sbp_bus.specs.Generations.{GenerationsState, node_of, topology_at}
-use Rattle.sbp_initiator.specs.declared.state.InitiatorState.{InitiatorState}
-use Rattle.sbp_initiator.specs.Initiators.{new_state}
-use Rattle.sbp_journal.specs.Outgoings.{OutboxState}
-use Rattle.sbp_session.specs.declared.seat.Origin.{Origin}
+use Rattle.sbp_world.proofs.Words.Std.{is_some, arith, ◌≡◌, ◌∙◌, refl, sym, ap, subst, ℕ, suc, ◌<◌, ◌≤◌, ◌&&◌, nat_eq, nat_lt, nat_le, Bool, true, false, List, length, Option, Some, None, slice_index_or, nat_tests, get_or-set_other, set_past, get_or-set_at, false≢true}
+use Rattle.sbp_world.proofs.Words.Wire.{GenerationsState, node_of, topology_at, OutboxState}
+use Rattle.sbp_world.proofs.Words.Target.{NodeState}
+use Rattle.sbp_world.proofs.Words.Initiator.{LoginResponse, ListState, InitiatorState, new_state, Origin, Seat, Event, bad, conflict, entered, failed, from_entering, from_held, from_out, from_returning, from_stuck, goes, good, pointed, pointing, reset, sent}
+use Rattle.sbp_world.proofs.Words.World.{Holds, handed_out, WorldState, initiator_at, with_initiator}
 use Rattle.sbp_session.specs.declared.seat.Origin.TheVariants as origins
-use Rattle.sbp_session.specs.declared.seat.Seat.{Seat}
 use Rattle.sbp_session.specs.declared.seat.Seat.TheVariants as seats
-use Rattle.sbp_session.specs.Moves.{Event, bad, conflict, entered, failed, from_entering, from_held, from_out, from_returning, from_stuck, goes, good, pointed, pointing, reset, sent}
-use Rattle.sbp_target.specs.Nodes.{NodeState}
-use Rattle.sbp_world.specs.FitTarget.{Holds}
-use Rattle.sbp_world.specs.Handing.{handed_out}
-use Rattle.sbp_world.specs.Worlds.{WorldState, initiator_at, with_initiator}
 use Rattle.sbp_world.proofs.Wire.Alike.{IsAlike, alike_then}
 use Rattle.sbp_world.proofs.Wire.Found.{has_id}
 use Rattle.sbp_world.proofs.Wire.Nodes.{handed_alike}

@@ -1,12 +1,8 @@
 -- A packet with another tcode than 0 writes no quadlet (IEEE 1394-1995, transaction codes): where it writes, it writes a block.
-use Rattle.std.proofs.Common.{◌≡◌, refl, ℕ, nat_eq, Bool, true, false, cond, List, Option, Some, None}
-use Rattle.async_packet.specs.declared.fault.PacketFault.{PacketFault}
-use Rattle.async_packet.specs.Fields.{tcode_of}
-use Rattle.async_packet.specs.Faults.{fault_of}
-use Rattle.async_packet.specs.Packet.{Packet}
-use Rattle.async_packet.specs.Reading.{packet_in, reading, unless_fault}
-use Rattle.sbp_laws.specs.Packets.{access_in, access_in_bytes, spelled_by}
-use Rattle.sbp_world.specs.Sessions.Blocks.{IsBlockWrite}
+use Rattle.sbp_world.proofs.Words.Std.{◌≡◌, refl, ℕ, nat_eq, Bool, true, false, cond, List, Option, Some, None}
+use Rattle.sbp_world.proofs.Words.Wire.{PacketFault, tcode_of, fault_of, Packet, packet_in, reading, unless_fault}
+use Rattle.sbp_world.proofs.Words.Laws.{access_in, access_in_bytes, spelled_by}
+use Rattle.sbp_world.proofs.Words.World.{IsBlockWrite}
 
 abbrev pub HasCode : List ℕ → Type 0
 HasCode bytes = nat_eq (tcode_of bytes) 0 ≡ false

@@ -1,40 +1,22 @@
 -- What a decision of the management agent leaves: what it granted is so, and is what is written first. The reply to the operation's request goes on from there.
-use Rattle.std.proofs.Common.{arith, ◌≡◌, ◌≢◌, ◌∙◌, refl, sym, ap, subst, ◌⊎◌, inl, inr, ℕ, zero, suc, ◌+◌, ◌*◌, ◌^◌, ◌==◌, nat_eq, Bool, true, false, cond, List, [], length, Option, Some, None, Result, Ok, Err}
+use Rattle.sbp_world.proofs.Words.Std.{arith, ◌≡◌, ◌≢◌, ◌∙◌, refl, sym, ap, subst, ◌⊎◌, inl, inr, ℕ, zero, suc, ◌+◌, ◌*◌, ◌^◌, ◌==◌, nat_eq, Bool, true, false, cond, List, [], length, Option, Some, None, Result, Ok, Err, nat_tests, get_or-set_at, get_or-set_other, false≢true, quad}
+use Rattle.sbp_world.proofs.Words.Target.{Login, IsTable, Table, entered, find, is_live, is_live_of, leave_at, leave_step, place_at, ManagerStep, Response, Function, Operation, Status, agent_base, asked_by, decide, decide_function, granted_hold, left_decided, reads_eui, response_bytes, with_status, beside, cut_response, decide_step, decided_as, eui_step, high_eui_at, high_got, in_phase, low_got, orb_got, reply_in, reply_to, respond_step, response_written, status_step, status_written, function_of}
+use Rattle.sbp_world.proofs.Words.Initiator.{FailCause, ManagementOrb, login_bytes, management_orb, Answer, Done, Expired, NoLabel, Payload, Refused, payload_of, write_failure}
+use Rattle.sbp_world.proofs.Words.Laws.{Decided, bytes_in, decided_by, decided_in}
+use Rattle.sbp_world.proofs.Words.World.{AreSame, HasResponse, HasStatus, IsBack, IsDecidedBy, IsDone, Responds, Writes, WritesOn, is_written}
 use Rattle.std.specs.Prelude.{take}
-use Rattle.std.proofs.lemmas.Bool.Decides.{nat_tests}
-use Rattle.std.proofs.lemmas.Grind.{get_or-set_at}
-use Rattle.std.proofs.lemmas.List.{get_or-set_other}
-use Rattle.std.proofs.lemmas.Bool.{false≢true}
-use Rattle.login_table.specs.declared.login.Login.{Login}
-use Rattle.login_table.specs.Sound.{IsTable}
-use Rattle.login_table.specs.Table.{Table, entered, find, is_live, is_live_of, leave_at, leave_step, place_at}
 use Rattle.login_table.proofs.Searching.{found}
-use Rattle.mgmt_agent.specs.declared.decision.ManagerStep.{ManagerStep}
 use Rattle.mgmt_agent.specs.declared.decision.Outcome.{Outcome}
-use Rattle.mgmt_agent.specs.declared.decision.Response.{Response}
 use Rattle.mgmt_agent.specs.declared.decision.Response.TheVariants as responses
-use Rattle.mgmt_agent.specs.declared.function.Function.{Function}
 use Rattle.mgmt_agent.specs.declared.function.Function.TheVariants as functions
-use Rattle.mgmt_agent.specs.declared.operation.Operation.{Operation}
 use Rattle.mgmt_agent.specs.declared.operation.Phase.{Phase}
 use Rattle.mgmt_agent.specs.declared.operation.Phase.TheVariants as phases
-use Rattle.mgmt_agent.specs.declared.status.Status.{Status}
 use Rattle.mgmt_agent.specs.declared.status.Status.TheVariants as statuses
-use Rattle.mgmt_agent.specs.Decisions.{agent_base, asked_by, decide, decide_function, granted_hold, left_decided, reads_eui, response_bytes, with_status}
-use Rattle.mgmt_agent.specs.Machine.{Machine, beside, cut_response, decide_step, decided_as, eui_step, high_eui_at, high_got, in_phase, low_got, orb_got, reply_in, reply_step, reply_to, respond_step, response_written, status_step, status_written}
-use Rattle.mgmt_agent.specs.Statuses.{function_of}
+use Rattle.mgmt_agent.specs.Machine.{Machine, reply_step}
 use Rattle.mgmt_agent.proofs.Doing.{effects_of_decisions}
 use Rattle.mgmt_agent.proofs.Outcomes.{refusals_do_nothing}
-use Rattle.orb_layout.specs.declared.ask.FailCause.{FailCause}
 use Rattle.orb_layout.specs.declared.ask.FailCause.TheVariants as causes
-use Rattle.orb_layout.specs.declared.management.ManagementOrb.{ManagementOrb}
-use Rattle.orb_layout.specs.LoginResponses.{login_bytes}
-use Rattle.orb_layout.specs.ManagementOrbs.{management_orb}
-use Rattle.orb_layout.specs.Replies.{Answer, Done, Expired, NoLabel, Payload, Refused, payload_of, write_failure}
-use Rattle.sbp_base.specs.Quadlets.{quad}
-use Rattle.sbp_laws.specs.Targets.{Decided, bytes_in, decided_by, decided_in}
-use Rattle.sbp_world.specs.Sessions.Standing.{AreSame}
-use Rattle.sbp_world.specs.Sessions.Writing.{HasResponse, HasStatus, IsBack, IsDecidedBy, IsDone, IsEntered, IsGone, Responds, Writes, WritesOn, is_written}
+use Rattle.sbp_world.specs.Sessions.Writing.{IsEntered, IsGone}
 use Rattle.sbp_world.proofs.Common.{untrue, none_is}
 
 -- ---- what was done stays so while the logins of its node stand

@@ -1,46 +1,19 @@
 -- A session becomes live by a status block of its target alone.
-use Rattle.std.proofs.Common.{arith, ◌≡◌, ◌∙◌, refl, sym, ap, subst, ◌⊎◌, inl, inr, ℕ, ◌==◌, ◌&&◌, Bool, true, false, cond, List, [], Option, Some, None, Result, Ok, Err}
-use Rattle.std.proofs.lemmas.Bool.Decides.{nat_tests}
-use Rattle.std.proofs.lemmas.Bool.{false≢true}
-use Rattle.async_packet.specs.declared.packet.Header.{Header}
-use Rattle.async_packet.specs.Packet.{Packet, lock, lock_response, read_block, read_block_response, read_quadlet, read_quadlet_response, write_block, write_quadlet, write_response}
+use Rattle.sbp_world.proofs.Words.Std.{arith, ◌≡◌, ◌∙◌, refl, sym, ap, subst, ◌⊎◌, inl, inr, ℕ, ◌==◌, ◌&&◌, Bool, true, false, cond, List, [], Option, Some, None, Result, Ok, Err, nat_tests, false≢true}
+use Rattle.sbp_world.proofs.Words.Wire.{Header, Packet, lock, lock_response, read_block, read_block_response, read_quadlet, read_quadlet_response, write_block, write_quadlet, write_response, Finding, Layer, judging_step, of_again, of_generation, of_grammar, of_label, of_request, of_response, Judged, Operation, OutboxState, empty_outbox}
+use Rattle.sbp_world.proofs.Words.Target.{is_block}
+use Rattle.sbp_world.proofs.Words.Initiator.{Fifo, OrbFault, LoginResponse, StatusBlock, StatusKind, login_response, ListState, drop_lists, take_lists, Purpose, Running, InitiatorState, Turn, drop_where, good_end, managed_step, moved, moves_session, response_of, then_step, told, addressed, block_at, block_by, block_step, called, fifo_of, got_step, ignored_step, is_foreign, managed_for, present_for, receive_step, received, request_step, respond_step, serve_step, status_step, taken_as, ends_list, ending_of, is_orb_of, is_present_orb, status_in, Origin, Seat, Event, bad, conflict, entered, failed, from_entering, from_held, from_live, from_out, from_returning, from_stuck, goes, good, pointed, pointing, reset, sent}
+use Rattle.sbp_world.proofs.Words.World.{operation_by, own_core, session_in, work_in, after, beginning, after_all, begun, initiator_at, EnteringLaw, IsAdmitted, IsGranted, SessionsEnter, joined_with, is_open}
 use Rattle.sbp_world.proofs.Hosts.Carried.{between_runs, of_runs}
 use Rattle.sbp_world.proofs.Hosts.Hosted.{Cored, cored_carried, first_cored}
 use Rattle.sbp_world.proofs.Hosts.Knowing.{Sits}
-use Rattle.sbp_world.specs.Hosts.Core.{operation_by, own_core, session_in, work_in}
-use Rattle.initiator_base.specs.declared.fifos.Fifo.{Fifo}
 use Rattle.initiator_base.specs.declared.fifos.Fifo.TheVariants as fifos
-use Rattle.label_table.specs.Layer.{Finding, Layer, judging_step, of_again, of_generation, of_grammar, of_label, of_request, of_response}
-use Rattle.media_bay.specs.Unsolicited.{is_block}
-use Rattle.orb_layout.specs.declared.fault.OrbFault.{OrbFault}
-use Rattle.orb_layout.specs.declared.login.LoginResponse.{LoginResponse}
-use Rattle.orb_layout.specs.declared.status.StatusBlock.{StatusBlock}
-use Rattle.orb_layout.specs.declared.status.StatusKind.{StatusKind}
 use Rattle.orb_layout.specs.declared.status.StatusKind.TheVariants as kinds
-use Rattle.orb_layout.specs.LoginResponses.{login_response}
-use Rattle.orb_list.specs.Lists.{ListState, drop_lists, take_lists}
-use Rattle.sbp_initiator.specs.declared.purpose.Purpose.{Purpose}
-use Rattle.sbp_initiator.specs.declared.purpose.Running.{Running}
-use Rattle.sbp_initiator.specs.declared.state.InitiatorState.{InitiatorState}
-use Rattle.sbp_initiator.specs.Effects.{Turn, drop_where, good_end, managed_step, moved, moves_session, response_of, then_step, told}
-use Rattle.sbp_initiator.specs.Receiving.{addressed, block_at, block_by, block_step, called, fifo_of, got_step, ignored_step, is_foreign, managed_for, present_for, receive_step, received, request_step, respond_step, serve_step, status_step, taken_as}
-use Rattle.sbp_initiator.specs.Refusals.{ends_list}
-use Rattle.sbp_initiator.specs.States.{ending_of, is_orb_of, is_present_orb, status_in}
 use Rattle.sbp_journal.specs.declared.cause.Cause.TheVariants as ignored
-use Rattle.sbp_journal.specs.declared.cause.Judged.{Judged}
 use Rattle.sbp_journal.specs.declared.note.Note.TheVariants as notes
-use Rattle.sbp_journal.specs.declared.operation.Operation.{Operation}
 use Rattle.sbp_journal.specs.declared.operation.Operation.TheVariants as operations
-use Rattle.sbp_journal.specs.Outgoings.{OutboxState, empty_outbox}
-use Rattle.sbp_session.specs.declared.seat.Origin.{Origin}
 use Rattle.sbp_session.specs.declared.seat.Origin.TheVariants as origins
-use Rattle.sbp_session.specs.declared.seat.Seat.{Seat}
 use Rattle.sbp_session.specs.declared.seat.Seat.TheVariants as seats
-use Rattle.sbp_world.specs.Runs.{after, beginning}
-use Rattle.sbp_world.specs.Settling.{after_all}
-use Rattle.sbp_world.specs.Worlds.{begun, initiator_at}
-use Rattle.sbp_session.specs.Moves.{Event, bad, conflict, entered, failed, from_entering, from_held, from_live, from_out, from_returning, from_stuck, goes, good, pointed, pointing, reset, sent}
-use Rattle.sbp_world.specs.Sessions.Entering.{EnteringLaw, IsAdmitted, IsGranted, SessionsEnter, joined_with, is_open}
 use Rattle.sbp_world.proofs.Sessions.Presents.{Fewer, take_fewer}
 use Rattle.sbp_world.proofs.Sessions.Sessions.{acts as session_acts, drop_seat, expires as session_expires, is_plain, own_write, ends_for as session_ends, quadlets_at as session_quadlets, responds as session_responds, sees as session_sees, serves as session_serves, takes_as as session_takes}
 use Rattle.sbp_world.proofs.Common.{untrue, none_is}

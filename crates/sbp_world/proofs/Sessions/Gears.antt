@@ -1,29 +1,19 @@
 -- What the notes of an initiator say of the login that its host has, and of its response buffers.
-use Rattle.std.proofs.Common.{arith, ◌≡◌, ◌∙◌, refl, sym, ap, ℕ, zero, suc, ◌&&◌, not, nat_eq, Bool, true, false, cond, List, ◌∷◌, Option, Some, None}
-use Rattle.std.proofs.lemmas.Bool.Decides.{nat_tests}
-use Rattle.orb_layout.specs.declared.login.LoginResponse.{LoginResponse}
-use Rattle.sbp_journal.specs.Run.{Moment, said}
-use Rattle.sbp_journal.specs.declared.note.Note.{Note}
+use Rattle.sbp_world.proofs.Words.Std.{arith, ◌≡◌, ◌∙◌, refl, sym, ap, ℕ, zero, suc, ◌&&◌, not, nat_eq, Bool, true, false, cond, List, ◌∷◌, Option, Some, None, nat_tests}
+use Rattle.sbp_world.proofs.Words.Wire.{Moment, said, Note, Operation, OpWord, Part, Sending, part_of, request, response, Terms, terms, Action, Event}
+use Rattle.sbp_world.proofs.Words.Initiator.{LoginResponse, Answer, Done, Expired, NoLabel, Payload, Refused}
+use Rattle.sbp_world.proofs.Words.Laws.{Host, Underway, acted, answered, host_goes_on, host_at, known_host, list_begins, op_ended, operation_of, pointer_answered, ring, sent_in, stored, without_read, present_list, access_at, answer_in, answered_at, packet_at, receiver_in, event_of}
 use Rattle.sbp_journal.specs.declared.note.Note.TheVariants as notes
-use Rattle.sbp_journal.specs.declared.operation.Operation.{Operation}
 use Rattle.sbp_journal.specs.declared.operation.Operation.TheVariants as operations
-use Rattle.sbp_journal.specs.declared.operation.OpWord.{OpWord}
 use Rattle.sbp_journal.specs.declared.operation.OpWord.TheVariants as words
 use Rattle.sbp_world.proofs.Hosts.Carries.{is_apart}
 use Rattle.sbp_world.proofs.Hosts.Cores.{wire_is}
 use Rattle.sbp_world.proofs.Hosts.Shown.{IsElsewhere, IsHeard}
-use Rattle.sbp_journal.specs.Transactions.{Part, Sending, no_packet, part_of, request, response}
-use Rattle.sbp_journal.specs.Wire.{Terms, terms}
-use Rattle.sbp_journal.specs.declared.event.Action.{Action}
+use Rattle.sbp_journal.specs.Transactions.{no_packet}
 use Rattle.sbp_journal.specs.declared.event.Action.TheVariants as actions
-use Rattle.sbp_journal.specs.declared.event.Event.{Event}
 use Rattle.sbp_journal.specs.declared.event.Event.TheVariants as events
-use Rattle.orb_layout.specs.Replies.{Answer, Done, Expired, NoLabel, Payload, Refused}
-use Rattle.sbp_laws.specs.Hosts.{Host, Underway, acted, answered, goes_on as host_goes_on, got_by, host_at, is_serial, known_host, list_begins, op_ended, operation_of, pointer_answered, ring, sent_as, sent_in, stored, without_read}
+use Rattle.sbp_laws.specs.Hosts.{got_by, is_serial, sent_as}
 use Rattle.sbp_laws.specs.Hosts as hosts
-use Rattle.sbp_laws.specs.Lists.{present_list}
-use Rattle.sbp_laws.specs.Packets.{access_at, answer_in, answered_at, packet_at, receiver_in}
-use Rattle.sbp_laws.specs.Turns.{event_of}
 use Rattle.sbp_world.proofs.Common.{untrue}
 
 -- the login that a host has, and its response buffers

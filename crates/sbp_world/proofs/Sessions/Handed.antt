@@ -1,60 +1,30 @@
 -- What leaves for an operation that writes is what it writes, to where its ORB says.
-use Rattle.std.proofs.Common.{◌≡◌, ◌∙◌, refl, sym, ap, subst, inl, inr, ℕ, ◌*◌, ◌+◌, ◌^◌, ◌==◌, ◌⊎◌, nat_le, Bool, true, false, cond, List, [], ◌∷◌, length, Option, Some, None, Result, Ok, Err, ◌++◌}
-use Rattle.async_packet.specs.Fields.{largest}
-use Rattle.async_packet.specs.Labels.{LabelParts}
-use Rattle.async_packet.specs.Packet.{Packet, header_in}
-use Rattle.label_table.specs.declared.judgement.Asked.{Asked}
-use Rattle.label_table.specs.Bodies.{Body, block_read, block_write}
+use Rattle.sbp_world.proofs.Words.Std.{◌≡◌, ◌∙◌, refl, sym, ap, subst, inl, inr, ℕ, ◌*◌, ◌+◌, ◌^◌, ◌==◌, ◌⊎◌, nat_le, Bool, true, false, cond, List, [], ◌∷◌, length, Option, Some, None, Result, Ok, Err, ◌++◌, quad}
+use Rattle.sbp_world.proofs.Words.Wire.{largest, LabelParts, Packet, header_in, Asked, Body, block_read, block_write, Finding, Layer, answering_step, asking_step, judging_step, of_request, of_response, empty_outbox, Judged}
+use Rattle.sbp_world.proofs.Words.Target.{Login, Table, ManagerStep, Operation, decide, reads_eui, beside, cut_response, decide_step, decided_as, eui_step, high_eui_at, high_got, in_phase, low_got, orb_got, reply_in, reply_to, response_written, source_in, start_step, start_with, status_step, status_written, Disk, Told, Purpose, after, manage, managed_in, manager_body, NodeState, Scene, scene, answer_in, concluded, received, received_as, with_layer, scene_of, whole, answer_step, answered, is_barred, serve, served_as, start, Demand, address_error, demand_of, request, response}
+use Rattle.sbp_world.proofs.Words.Initiator.{Ask, Nothing, FailCause, ManagementOrb, management_orb, Answer, payload_of, write_failure}
+use Rattle.sbp_world.proofs.Words.Laws.{Decided, bytes_in, decided_by, decided_in}
+use Rattle.sbp_world.proofs.Words.World.{CallsKeep, Office, replied, started, started_by, GoesTo, HandedLaw, IsStarted, brings, Writes, is_written}
 use Rattle.label_table.specs.History as wire
-use Rattle.label_table.specs.Layer.{Finding, Layer, answering_step, asking_step, judging_step, of_request, of_response}
-use Rattle.login_table.specs.declared.login.Login.{Login}
-use Rattle.login_table.specs.Table.{Table}
-use Rattle.mgmt_agent.specs.declared.decision.ManagerStep.{ManagerStep}
 use Rattle.mgmt_agent.specs.declared.decision.Outcome.{Outcome}
-use Rattle.mgmt_agent.specs.declared.operation.Operation.{Operation}
 use Rattle.mgmt_agent.specs.declared.operation.Phase.{Phase}
 use Rattle.mgmt_agent.specs.declared.operation.Phase.TheVariants as phases
-use Rattle.mgmt_agent.specs.Decisions.{decide, reads_eui}
-use Rattle.mgmt_agent.specs.Machine.{Machine, beside, cut_response, decide_step, decided_as, eui_step, high_eui_at, high_got, in_phase, low_got, orb_got, quiet, reply_in, reply_step, reply_to, response_written, source_in, start_step, start_with, status_step, status_written}
-use Rattle.orb_layout.specs.declared.ask.Ask.{Ask}
+use Rattle.mgmt_agent.specs.Machine.{Machine, quiet, reply_step}
 use Rattle.orb_layout.specs.declared.ask.Ask.TheVariants as asks
-use Rattle.orb_layout.specs.declared.ask.Ask.TheVariants.{Nothing}
-use Rattle.orb_layout.specs.declared.ask.FailCause.{FailCause}
-use Rattle.orb_layout.specs.declared.management.ManagementOrb.{ManagementOrb}
-use Rattle.orb_layout.specs.ManagementOrbs.{management_orb}
-use Rattle.orb_layout.specs.Replies.{Answer, payload_of, write_failure}
-use Rattle.rbc_disk.specs.Disk.{Disk}
-use Rattle.rbc_disk.specs.Runs.{Told}
-use Rattle.sbp_base.specs.Quadlets.{quad}
-use Rattle.sbp_journal.specs.Outgoings.{empty_outbox}
 use Rattle.sbp_journal.specs.declared.cause.Cause.TheVariants as ignored
-use Rattle.sbp_journal.specs.declared.cause.Judged.{Judged}
 use Rattle.sbp_journal.specs.declared.cause.Judged.TheVariants as judgements
-use Rattle.sbp_laws.specs.Targets.{Decided, bytes_in, decided_by, decided_in}
-use Rattle.sbp_target.specs.declared.purpose.Purpose.{Purpose}
 use Rattle.sbp_target.specs.declared.purpose.Purpose.TheVariants as purposes
-use Rattle.sbp_target.specs.Calls.{after}
-use Rattle.sbp_target.specs.Management.{manage, managed_in, manager_body}
-use Rattle.sbp_target.specs.Nodes.{NodeState, Scene, scene}
-use Rattle.sbp_target.specs.Receiving.{answer_in, concluded, received, received_as, with_layer}
-use Rattle.sbp_target.specs.Replies.{scene_of, whole}
-use Rattle.sbp_target.specs.Sending.{answer_step}
-use Rattle.sbp_target.specs.Serving.{answered, is_barred, request_step, serve, served_as, start}
-use Rattle.target_base.specs.declared.address.Demand.{Demand}
+use Rattle.sbp_target.specs.Serving.{request_step}
 use Rattle.target_base.specs.declared.address.Demand.TheVariants as demands
-use Rattle.target_base.specs.Addresses.{address_error, demand_of}
-use Rattle.sbp_target.specs.Histories.Layers.{request, response}
 use Rattle.sbp_target.proofs.Histories.Calling.{Good}
 use Rattle.sbp_target.proofs.Histories.Found.{IsFound, found}
 use Rattle.sbp_target.proofs.Histories.Primitives.{Known, closing_known, live_on}
 use Rattle.sbp_target.proofs.Histories.Seats.{Lives}
 use Rattle.sbp_target.proofs.Histories.Settled.{all_good}
-use Rattle.sbp_world.specs.Agents.Management.Calls.{CallsKeep, delivered}
-use Rattle.sbp_world.specs.Agents.Management.Offices.{Office, replied, started, started_by}
+use Rattle.sbp_world.specs.Agents.Management.Calls.{delivered}
 use Rattle.sbp_world.proofs.Agents.Management.Asking.{MayLeave, Turned, leaves, replied_turn, silent, start_rcode, started_turn}
 use Rattle.sbp_world.proofs.Agents.Management.Calls.{management_law}
-use Rattle.sbp_world.specs.Sessions.Handed.{GoesTo, HandedLaw, IsHanded, IsOrbOf, IsStarted, brings, goes_on}
-use Rattle.sbp_world.specs.Sessions.Writing.{Writes, is_written}
+use Rattle.sbp_world.specs.Sessions.Handed.{IsHanded, IsOrbOf, goes_on}
 use Rattle.sbp_world.proofs.Sessions.Decisions.{bytes_are, none_goes}
 use Rattle.sbp_world.proofs.Sessions.Writing.{behind}
 use Rattle.sbp_world.proofs.Common.{untrue}

@@ -1,31 +1,13 @@
 -- In every run the login of an initiator's host is the response that its session carries, and its response buffers are those in its memory.
-use Rattle.std.proofs.Common.{◌≡◌, ◌∙◌, refl, sym, ap, subst, ℕ, ◌==◌, Bool, false, List, Option, Some, None, Result, Ok, Err}
-use Rattle.async_packet.specs.Labels.{LabelParts}
-use Rattle.async_packet.specs.declared.fault.PacketFault.{PacketFault}
-use Rattle.async_packet.specs.Packet.{Packet, lock, lock_response, read_block, read_block_response, read_quadlet, read_quadlet_response, write_block, write_quadlet, write_response}
-use Rattle.async_packet.specs.Reading.{reading}
-use Rattle.bus_memory.specs.Laws.{IsWhole}
+use Rattle.sbp_world.proofs.Words.Std.{◌≡◌, ◌∙◌, refl, sym, ap, subst, ℕ, ◌==◌, Bool, false, List, Option, Some, None, Result, Ok, Err}
+use Rattle.sbp_world.proofs.Words.Wire.{LabelParts, PacketFault, Packet, lock, lock_response, read_block, read_block_response, read_quadlet, read_quadlet_response, write_block, write_quadlet, write_response, reading, Row, by_again, by_generation, by_grammar, by_label, by_request, by_response, row_of, Finding, Layer, facts_of, judged_by, judging_step, of_again, of_generation, of_grammar, of_label, of_request, of_response, access_of, empty_outbox, Moment}
+use Rattle.sbp_world.proofs.Words.Initiator.{IsWhole, slot_calls_after, LoginResponse, Purpose, Running, InitiatorState, Turn, own_rom, carried}
+use Rattle.sbp_world.proofs.Words.Laws.{host_at, access_in, spelled_by}
+use Rattle.sbp_world.proofs.Words.World.{behind, AreBuffers}
 use Rattle.sbp_world.proofs.Hosts.Hosted.{Cored}
-use Rattle.sbp_world.specs.Hosts.Calls.{behind}
 use Rattle.sbp_initiator.proofs.Histories.Slotted.{slot_law}
-use Rattle.sbp_initiator.specs.Histories.Slots.{slot_calls_after}
-use Rattle.label_table.specs.Judging.{Row, by_again, by_generation, by_grammar, by_label, by_request, by_response, row_of}
-use Rattle.label_table.specs.Layer.{Finding, Layer, facts_of, judged_by, judging_step, of_again, of_generation, of_grammar, of_label, of_request, of_response}
-use Rattle.orb_layout.specs.declared.login.LoginResponse.{LoginResponse}
 use Rattle.orb_list.proofs.Steps.{held_law}
-use Rattle.sbp_initiator.specs.declared.purpose.Purpose.{Purpose}
-use Rattle.sbp_initiator.specs.declared.purpose.Running.{Running}
-use Rattle.sbp_initiator.specs.declared.state.InitiatorState.{InitiatorState}
-use Rattle.sbp_initiator.specs.Effects.{Turn}
-use Rattle.sbp_initiator.specs.Initiators.{own_rom}
-use Rattle.sbp_journal.specs.Addresses.{access_of}
-use Rattle.sbp_journal.specs.Outgoings.{empty_outbox}
-use Rattle.sbp_journal.specs.Run.{Moment}
 use Rattle.sbp_journal.specs.declared.operation.Operation.TheVariants as operations
-use Rattle.sbp_laws.specs.Hosts.{host_at}
-use Rattle.sbp_laws.specs.Packets.{access_in, spelled_by}
-use Rattle.sbp_session.specs.Laws.{carried}
-use Rattle.sbp_world.specs.Sessions.Holding.{AreBuffers}
 use Rattle.sbp_world.proofs.Sessions.Buffers.{buffers_stand}
 use Rattle.sbp_world.proofs.Sessions.Gears.{Gear, gear_at}
 use Rattle.sbp_world.proofs.Sessions.Mild.{Mild}

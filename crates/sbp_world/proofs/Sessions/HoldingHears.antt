@@ -1,67 +1,31 @@
 -- What a delivery leaves of what an initiator holds: a login that is done brings the response in its buffer, and a block that is written is stored there.
-use Rattle.std.proofs.Common.{arith, ◌≡◌, ◌∙◌, refl, sym, ap, subst, ℕ, suc, ◌<◌, ◌==◌, ◌&&◌, nat_eq, Bool, true, false, cond, List, [], ◌∷◌, length, Option, Some, None, Result, Ok, Err}
-use Rattle.std.specs.Prelude.{replicate, slice_index_or, unwrap_or}
-use Rattle.std.proofs.lemmas.Bool.Decides.{nat_tests}
-use Rattle.async_packet.specs.declared.packet.Header.{Header}
-use Rattle.async_packet.specs.declared.fault.PacketFault.{PacketFault}
-use Rattle.async_packet.specs.Packet.{Packet, header_in, lock, lock_response, read_block, read_block_response, read_quadlet, read_quadlet_response, write_block, write_quadlet, write_response}
-use Rattle.async_packet.specs.Reading.{reading}
-use Rattle.bus_memory.specs.Access.{read_step, write_step}
-use Rattle.bus_memory.specs.Windows.{window_at}
+use Rattle.sbp_world.proofs.Words.Std.{arith, ◌≡◌, ◌∙◌, refl, sym, ap, subst, ℕ, suc, ◌<◌, ◌==◌, ◌&&◌, nat_eq, Bool, true, false, cond, List, [], ◌∷◌, length, Option, Some, None, Result, Ok, Err, slice_index_or, unwrap_or, nat_tests, big_bytes}
+use Rattle.sbp_world.proofs.Words.Wire.{Header, PacketFault, Packet, header_in, lock, lock_response, read_block, read_block_response, read_quadlet, read_quadlet_response, write_block, write_quadlet, write_response, reading, Finding, Layer, answering_step, judging_step, of_again, of_generation, of_grammar, of_label, of_request, of_response, judged_note, Access, access_of, OutboxState, empty_outbox, Moment, said, Sending, part_of, writing, Terms, terms, Cause, Judged, Operation}
+use Rattle.sbp_world.proofs.Words.Target.{is_block}
+use Rattle.sbp_world.proofs.Words.Initiator.{read_step, write_step, window_at, Fifo, OrbFault, LoginResponse, StatusBlock, StatusKind, login_response, query_count, ListState, take_lists, unpin_lists, write_lists, Purpose, Running, InitiatorState, Turn, drop_list_step, drop_where, end_step, ended_for, good_end, managed_step, moved, response_of, then_step, told, addressed, block_at, block_by, block_step, called, fifo_of, got_step, ignored_step, is_foreign, managed_for, present_for, quadlet_at, read_as, receive_step, received, request_step, respond_step, responded_as, serve_step, status_step, taken_as, type_error, written_as, ends_list, ending_of, is_present_orb, place_in, place_of, status_in, carried, carried_on, Event, bad, entered, good, Seat}
+use Rattle.sbp_world.proofs.Words.Laws.{Host, Underway, host_at, is_management, op_ended, stored, stored_in, access_at, access_in, answered_at, packet_in, receiver_in, spelled_by}
+use Rattle.sbp_world.proofs.Words.World.{behind, Core, Work, work_in, work_of, IsBlockWrite, AreBuffers}
+use Rattle.std.specs.Prelude.{replicate}
 use Rattle.bus_transactions.proofs.PacketParts.{part_read}
-use Rattle.byteorder.specs.Endian.{big_bytes}
 use Rattle.sbp_world.proofs.Hosts.Answering.{request_of}
 use Rattle.sbp_world.proofs.Hosts.Cores.{got_told}
 use Rattle.sbp_world.proofs.Hosts.Hosted.{Cored, hears_fit}
 use Rattle.sbp_world.proofs.Hosts.KnowHears.{IfFits}
 use Rattle.sbp_world.proofs.Hosts.Shown.{IsHeard}
-use Rattle.sbp_world.specs.Hosts.Calls.{behind}
-use Rattle.sbp_world.specs.Hosts.Core.{Core, Work, placed, work_in, work_of}
-use Rattle.initiator_base.specs.declared.fifos.Fifo.{Fifo}
+use Rattle.sbp_world.specs.Hosts.Core.{placed}
 use Rattle.initiator_base.specs.declared.fifos.Fifo.TheVariants as fifos
 use Rattle.sbp_initiator.proofs.Histories.Effects.{Fits}
 use Rattle.sbp_initiator.proofs.Histories.Purposes.{IfFor}
-use Rattle.label_table.specs.Layer.{Finding, Layer, answering_step, judging_step, of_again, of_generation, of_grammar, of_label, of_request, of_response}
-use Rattle.media_bay.specs.Unsolicited.{is_block}
-use Rattle.orb_layout.specs.declared.fault.OrbFault.{OrbFault}
-use Rattle.orb_layout.specs.declared.login.LoginResponse.{LoginResponse}
-use Rattle.orb_layout.specs.declared.status.StatusBlock.{StatusBlock}
-use Rattle.orb_layout.specs.declared.status.StatusKind.{StatusKind}
 use Rattle.orb_layout.specs.declared.status.StatusKind.TheVariants as kinds
-use Rattle.orb_layout.specs.LoginResponses.{login_response}
-use Rattle.orb_layout.specs.QueryResponses.{query_count}
-use Rattle.orb_list.specs.Lists.{ListState, take_lists, unpin_lists, write_lists}
-use Rattle.sbp_bus.specs.Packets.{judged_note}
-use Rattle.sbp_initiator.specs.declared.purpose.Purpose.{Purpose}
-use Rattle.sbp_initiator.specs.declared.purpose.Running.{Running}
-use Rattle.sbp_initiator.specs.declared.state.InitiatorState.{InitiatorState}
-use Rattle.sbp_initiator.specs.Effects.{Turn, drop_list_step, drop_where, end_step, ended_for, good_end, managed_step, moved, response_of, then_step, told}
-use Rattle.sbp_initiator.specs.Receiving.{addressed, block_at, block_by, block_step, called, fifo_of, got_step, ignored_step, is_foreign, managed_for, present_for, quadlet_at, read_as, receive_step, received, request_step, respond_step, responded_as, serve_step, status_step, taken_as, type_error, written_as}
-use Rattle.sbp_initiator.specs.Refusals.{ends_list}
-use Rattle.sbp_initiator.specs.States.{ending_of, is_present_orb, place_in, place_of, status_in}
-use Rattle.sbp_journal.specs.Addresses.{Access, access_of}
-use Rattle.sbp_journal.specs.Outgoings.{OutboxState, empty_outbox}
-use Rattle.sbp_journal.specs.Run.{Moment, said}
-use Rattle.sbp_journal.specs.Transactions.{Sending, part_of, writing}
-use Rattle.sbp_journal.specs.Wire.{Terms, terms}
-use Rattle.sbp_journal.specs.declared.cause.Cause.{Cause}
 use Rattle.sbp_journal.specs.declared.cause.Cause.TheVariants as causes
-use Rattle.sbp_journal.specs.declared.cause.Judged.{Judged}
 use Rattle.sbp_journal.specs.declared.cause.Judged.TheVariants as judgements
 use Rattle.sbp_journal.specs.declared.note.Note.TheVariants as notes
-use Rattle.sbp_journal.specs.declared.operation.Operation.{Operation}
 use Rattle.sbp_journal.specs.declared.operation.Operation.TheVariants as operations
 use Rattle.sbp_journal.specs.declared.operation.OpWord.TheVariants as words
-use Rattle.sbp_laws.specs.Hosts.{Host, Underway, host_at, is_management, is_serial, op_ended, stored, stored_in}
+use Rattle.sbp_laws.specs.Hosts.{is_serial}
 use Rattle.sbp_laws.specs.Hosts as hosts
-use Rattle.sbp_laws.specs.Packets.{access_at, access_in, answered_at, packet_in, receiver_in, spelled_by}
 use Rattle.sbp_session.proofs.Rows.{response_by_moves}
-use Rattle.sbp_session.specs.Laws.{carried, carried_on}
-use Rattle.sbp_session.specs.Moves.{Event, bad, entered, good}
-use Rattle.sbp_session.specs.declared.seat.Seat.{Seat}
 use Rattle.sbp_session.specs.declared.seat.Seat.TheVariants as seats
-use Rattle.sbp_world.specs.Sessions.Blocks.{IsBlockWrite}
-use Rattle.sbp_world.specs.Sessions.Holding.{AreBuffers}
 use Rattle.sbp_world.proofs.Sessions.Buffers.{at_far, buffers_stand, stored_far, writes}
 use Rattle.sbp_world.proofs.Sessions.Gears.{Gear, gear_at, gear_of, got_stays, got_stores, is_mild, stores}
 use Rattle.sbp_world.proofs.Sessions.Mild.{Mild, calls, drops, ends_mild, ends_moved, is_old, refused_mild, responds, still, takes, tells}

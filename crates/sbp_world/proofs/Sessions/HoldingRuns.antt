@@ -1,14 +1,9 @@
 -- What an action, a time-out and a sight leave of what an initiator holds; and so every run.
-use Rattle.std.proofs.Common.{arith, ◌≡◌, ◌∙◌, refl, sym, ap, subst, ℕ, suc, ◌<◌, ◌==◌, not, nat_eq, nat_lt, Bool, true, false, cond, List, [], ◌∷◌, length, replicate, Option, Some, None}
-use Rattle.std.proofs.lemmas.Bool.Decides.{nat_tests}
-use Rattle.std.proofs.lemmas.List.{get_or-replicate}
-use Rattle.std.proofs.lemmas.List.{get_or-set_other}
-use Rattle.std.proofs.lemmas.Grind.{get_or-set_at}
-use Rattle.std.proofs.lemmas.Bool.{not-false}
-use Rattle.async_packet.specs.Labels.{LabelParts}
-use Rattle.bus_memory.specs.declared.slot.PlaceMemory.{PlaceMemory}
-use Rattle.bus_memory.specs.Laws.{IsWhole}
-use Rattle.bus_memory.specs.Memory.{Memory, empty_place, new_memory, patch, place_at, with_bytes}
+use Rattle.sbp_world.proofs.Words.Std.{arith, ◌≡◌, ◌∙◌, refl, sym, ap, subst, ℕ, suc, ◌<◌, ◌==◌, not, nat_eq, nat_lt, Bool, true, false, cond, List, [], ◌∷◌, length, replicate, Option, Some, None, nat_tests, get_or-replicate, get_or-set_other, get_or-set_at, not-false}
+use Rattle.sbp_world.proofs.Words.Wire.{LabelParts, Asked, Layer, expiring_step, judging_step, seeing_step, judged_note, buffer_of, OutboxState, empty_outbox, Moment, asks, said, terms, Action, Cmd, Note, Operation, Side}
+use Rattle.sbp_world.proofs.Words.Initiator.{PlaceMemory, IsWhole, Memory, empty_place, new_memory, patch, place_at, with_bytes, LoginResponse, ManagementOrb, management_bytes, PresentList, ListState, dummy_lists, high_lists, low_lists, manage_lists, find_in, TicketParts, act_step, append_step, asked_as, asked_for, counted, demand_of, demanded_as, done_step, dummy_for, facts_with, judged_as, link_as, link_step, login_id, login_orb, low_as, low_step, managed_by, orb_by, pinned_for, put_as, put_step, ring_for, with_running, put_lists, Demand, Purpose, Running, InitiatorState, Turn, told, with_request, new_state, own_rom, ready_response, expire_step, expired_as, receive_step, is_in_out, refusal, see_step, is_unwritten, last_linked, no_marks, place_of, session_of, carried, goes, pointing, sent, Seat}
+use Rattle.sbp_world.proofs.Words.Laws.{event_of, Host, host_at, new_host, ready_host}
+use Rattle.sbp_world.proofs.Words.World.{behind, history_of, GotBlocks, AreBuffers, HoldingLaw, HoldsLogin}
 use Rattle.bus_memory.specs.declared.window.Window.TheVariants as windows
 use Rattle.sbp_world.proofs.Hosts.Acts.{Goes, goes_layer, goes_on}
 use Rattle.sbp_world.proofs.Hosts.Carried.{between_runs, of_runs}
@@ -19,53 +14,13 @@ use Rattle.sbp_world.proofs.Hosts.PointSees.{see_left}
 use Rattle.sbp_world.proofs.Hosts.ActLeft.{act_left}
 use Rattle.sbp_world.proofs.Hosts.Pointed.{stale_is}
 use Rattle.sbp_world.proofs.Hosts.Shown.{IsHeard, IsShown}
-use Rattle.sbp_world.specs.Hosts.Calls.{behind}
-use Rattle.label_table.specs.declared.judgement.Asked.{Asked}
-use Rattle.label_table.specs.Layer.{Layer, expiring_step, judging_step, seeing_step}
-use Rattle.orb_layout.specs.declared.login.LoginResponse.{LoginResponse}
-use Rattle.orb_layout.specs.declared.management.ManagementOrb.{ManagementOrb}
-use Rattle.orb_layout.specs.ManagementOrbs.{management_bytes}
-use Rattle.orb_list.specs.declared.list.PresentList.{PresentList}
-use Rattle.orb_list.specs.Lists.{ListState, dummy_lists, high_lists, low_lists, manage_lists}
-use Rattle.orb_list.specs.Table.{find_in}
-use Rattle.orb_list.specs.Tickets.{TicketParts}
-use Rattle.sbp_bus.specs.Packets.{judged_note}
-use Rattle.sbp_initiator.specs.Acting.{act_step, append_step, asked_as, asked_for, counted, demand_of, demanded_as, done_step, dummy_for, facts_with, judged_as, link_as, link_step, login_id, login_orb, low_as, low_step, managed_by, orb_by, pinned_for, put_as, put_step, ring_for, with_running}
-use Rattle.sbp_initiator.specs.Commands.{put_lists}
 use Rattle.sbp_initiator.specs.declared.purpose.Pointing.TheVariants as pointings
-use Rattle.sbp_initiator.specs.declared.purpose.Demand.{Demand}
-use Rattle.sbp_initiator.specs.declared.purpose.Purpose.{Purpose}
-use Rattle.sbp_initiator.specs.declared.purpose.Running.{Running}
-use Rattle.sbp_initiator.specs.declared.state.InitiatorState.{InitiatorState}
-use Rattle.sbp_initiator.specs.Effects.{Turn, told, with_request}
-use Rattle.sbp_initiator.specs.Initiators.{new_state, own_rom, ready_response}
-use Rattle.sbp_initiator.specs.Receiving.{expire_step, expired_as, receive_step}
-use Rattle.sbp_initiator.specs.Refusals.{is_in_out, refusal}
-use Rattle.sbp_initiator.specs.Seeing.{see_step}
-use Rattle.sbp_initiator.specs.States.{is_unwritten, last_linked, no_marks, place_of, session_of}
-use Rattle.sbp_journal.specs.Buffers.{buffer_of}
-use Rattle.sbp_journal.specs.Outgoings.{OutboxState, empty_outbox}
-use Rattle.sbp_journal.specs.Run.{Moment, asked as asks, said}
-use Rattle.sbp_journal.specs.Wire.{terms}
-use Rattle.sbp_journal.specs.declared.event.Action.{Action}
 use Rattle.sbp_journal.specs.declared.event.Action.TheVariants as actions
-use Rattle.sbp_journal.specs.declared.event.Cmd.{Cmd}
 use Rattle.sbp_journal.specs.declared.event.Event.TheVariants as events
-use Rattle.sbp_journal.specs.declared.note.Note.{Note}
 use Rattle.sbp_journal.specs.declared.note.Note.TheVariants as notes
-use Rattle.sbp_journal.specs.declared.operation.Operation.{Operation}
 use Rattle.sbp_journal.specs.declared.operation.Operation.TheVariants as operations
-use Rattle.sbp_journal.specs.declared.side.Side.{Side}
 use Rattle.sbp_journal.specs.declared.side.Side.TheVariants as sides
-use Rattle.sbp_laws.specs.Turns.{event_of}
-use Rattle.sbp_laws.specs.Hosts.{Host, host_at, new_host, ready_host}
-use Rattle.sbp_session.specs.Laws.{carried}
-use Rattle.sbp_session.specs.Moves.{goes, pointing, sent}
-use Rattle.sbp_session.specs.declared.seat.Seat.{Seat}
 use Rattle.sbp_session.specs.declared.seat.Seat.TheVariants as seats
-use Rattle.sbp_world.specs.Histories.{history_of}
-use Rattle.sbp_world.specs.Sessions.Blocks.{GotBlocks}
-use Rattle.sbp_world.specs.Sessions.Holding.{AreBuffers, HoldingLaw, HoldsLogin}
 use Rattle.sbp_world.proofs.Sessions.Buffers.{buffers_stand}
 use Rattle.sbp_world.proofs.Sessions.Gears.{apart_gear, gear_at, sent_gear, seen_gear, timed_gear}
 use Rattle.sbp_world.proofs.Sessions.BlockRuns.{blocks_law}

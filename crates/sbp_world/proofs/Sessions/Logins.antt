@@ -1,37 +1,18 @@
 -- What a reply to the management operation leaves of the live logins of other nodes than its source.
-use Rattle.std.proofs.Common.{arith, ◌≡◌, ◌≢◌, ◌∙◌, refl, sym, ap, ℕ, ◌+◌, ◌*◌, ◌^◌, ◌<◌, ◌==◌, ◌&&◌, not, nat_eq, Bool, true, false, cond, List, length, set, Option, Some, None, Result, Ok, Err}
-use Rattle.std.specs.Prelude.{is_none, position}
-use Rattle.std.proofs.lemmas.Bool.Decides.{nat_tests}
-use Rattle.std.proofs.lemmas.Grind.{get_or-set_at}
-use Rattle.std.proofs.lemmas.List.{get_or-set_other}
-use Rattle.std.proofs.lemmas.List.Quantifiers.{position-Some}
-use Rattle.std.proofs.lemmas.Bool.{false≢true}
-use Rattle.sbp_base.specs.Quadlets.{quad}
-use Rattle.login_table.specs.declared.login.Entered.{Entered}
-use Rattle.login_table.specs.declared.login.Login.{Login}
-use Rattle.login_table.specs.declared.login.LoginRefusal.{LoginRefusal}
+use Rattle.sbp_world.proofs.Words.Std.{arith, ◌≡◌, ◌≢◌, ◌∙◌, refl, sym, ap, ℕ, ◌+◌, ◌*◌, ◌^◌, ◌<◌, ◌==◌, ◌&&◌, not, nat_eq, Bool, true, false, cond, List, length, set, Option, Some, None, Result, Ok, Err, is_none, position, nat_tests, get_or-set_at, get_or-set_other, position-Some, false≢true, quad}
+use Rattle.sbp_world.proofs.Words.Target.{Entered, Login, LoginRefusal, LoginRequest, Table, back_step, enter_step, entered, find, id_at, is_held, is_live, is_live_of, is_old, leave_step, left_for, place_at, revived, ManagerStep, Operation, Function, asked_by, decide, decide_function, key_at, lacks_key, login_decided, reads_eui, unit_exists, with_status, beside, decide_step, decided_as, eui_step, high_eui_at, high_got, low_got, orb_got, reply_in, reply_to, response_written, source_in, status_written, function_of}
+use Rattle.sbp_world.proofs.Words.Initiator.{FailCause, ManagementOrb, management_orb, Answer, payload_of, write_failure}
+use Rattle.sbp_world.proofs.Words.World.{AreSame}
 use Rattle.login_table.specs.declared.login.LoginRefusal.TheVariants as refusals
-use Rattle.login_table.specs.Requests.{LoginRequest}
 use Rattle.login_table.specs.Table as table
-use Rattle.login_table.specs.Table.{Table, back_step, enter_step, entered, find, id_at, is_held, is_live, is_live_of, is_old, leave_step, left_for, place_at, revived}
 use Rattle.login_table.proofs.Searching.{found}
-use Rattle.orb_layout.specs.declared.ask.FailCause.{FailCause}
-use Rattle.orb_layout.specs.declared.management.ManagementOrb.{ManagementOrb}
-use Rattle.orb_layout.specs.ManagementOrbs.{management_orb}
-use Rattle.orb_layout.specs.Replies.{Answer, payload_of, write_failure}
-use Rattle.mgmt_agent.specs.declared.decision.ManagerStep.{ManagerStep}
 use Rattle.mgmt_agent.specs.declared.decision.Outcome.{Outcome}
-use Rattle.mgmt_agent.specs.declared.operation.Operation.{Operation}
 use Rattle.mgmt_agent.specs.declared.operation.Phase.{Phase}
 use Rattle.mgmt_agent.specs.declared.operation.Phase.TheVariants as phases
-use Rattle.mgmt_agent.specs.declared.function.Function.{Function}
 use Rattle.mgmt_agent.specs.declared.function.Function.TheVariants as functions
 use Rattle.mgmt_agent.specs.declared.status.Status.TheVariants as statuses
-use Rattle.mgmt_agent.specs.Decisions.{asked_by, decide, decide_function, key_at, lacks_key, login_decided, reads_eui, unit_exists, with_status}
-use Rattle.mgmt_agent.specs.Machine.{Machine, beside, decide_step, decided_as, eui_step, high_eui_at, high_got, low_got, orb_got, reply_in, reply_step, reply_to, response_written, source_in, status_written}
-use Rattle.mgmt_agent.specs.Statuses.{function_of}
+use Rattle.mgmt_agent.specs.Machine.{Machine, reply_step}
 use Rattle.sbp_world.proofs.Agents.Hiring.{not_old}
-use Rattle.sbp_world.specs.Sessions.Standing.{AreSame}
 use Rattle.sbp_world.proofs.Common.{none_is}
 use Rattle.sbp_world.proofs.Sessions.Decisions.{of_node}
 

@@ -1,51 +1,21 @@
 -- What a call of an initiator tells and leaves that brings it no login: the login that its host has by the run and its response buffers stay, its session carries no
 -- other response, and the places of management stand.
-use Rattle.std.proofs.Common.{arith, ◌≡◌, ◌∙◌, refl, sym, ap, subst, ℕ, ◌==◌, nat_lt, Bool, true, false, cond, List, [], ◌∷◌, length, Option, Some, None, Result, Ok, Err}
-use Rattle.std.proofs.lemmas.Bool.Decides.{nat_tests}
-use Rattle.async_packet.specs.Packet.{Packet, header_in}
-use Rattle.config_rom.specs.declared.fault.RomFault.{RomFault}
-use Rattle.config_rom.specs.declared.unit.SbpUnit.{SbpUnit}
-use Rattle.config_rom.specs.Reading.{Tree, reading}
-use Rattle.config_rom.specs.Unit.{sbp_unit_of}
+use Rattle.sbp_world.proofs.Words.Std.{arith, ◌≡◌, ◌∙◌, refl, sym, ap, subst, ℕ, ◌==◌, nat_lt, Bool, true, false, cond, List, [], ◌∷◌, length, Option, Some, None, Result, Ok, Err, nat_tests}
+use Rattle.sbp_world.proofs.Words.Wire.{Packet, header_in, Asked, Stale, Layer, answering_step, asking_step, OutboxState, empty_outbox, Moment, Note, Operation, OpWord}
+use Rattle.sbp_world.proofs.Words.Target.{RomFault, SbpUnit, Tree, reading, sbp_unit_of}
+use Rattle.sbp_world.proofs.Words.Initiator.{is_dead_kind, management_at, with_quad, LoginResponse, StatusKind, ListState, drop_lists, free_lists, TicketParts, Ending, Purpose, Running, InitiatorState, Turn, ask_quad, asked_quad, conflict_for, conflict_step, drop_list_step, dropped_as, end_own_for, end_own_step, end_step, ended_for, ended_step, fail_step, fault_number, finish_rom, is_address, is_conflict, known_where, moved, moves_session, next_quad, pointed_step, quad_got, state_told, stick_step, told, with_answered, with_dead, with_request, with_rom, with_unit, answer_of, called, expired_as, respond_step, responded_as, taken_as, taken_by, all_end, interrupted, reset_told, resets_told, seen_as, states_end, counts_for, is_list, no_marks, carried, carried_on, Event, bad, conflict, entered, failed, goes, good, pointed, pointing, reset, sent, is_stuck_seat, Seat}
+use Rattle.sbp_world.proofs.Words.World.{behind}
 use Rattle.sbp_world.proofs.Hosts.KnowHears.{IfExpires}
 use Rattle.sbp_world.proofs.Hosts.Listed.{behind_more}
-use Rattle.sbp_world.specs.Hosts.Calls.{behind}
-use Rattle.initiator_base.specs.Fifos.{is_dead_kind}
-use Rattle.initiator_base.specs.Places.{management_at}
-use Rattle.initiator_base.specs.Quads.{with_quad}
 use Rattle.sbp_initiator.proofs.Histories.Effects.{Fits, IsFor}
 use Rattle.sbp_initiator.proofs.Histories.Purposes.{IfFor}
-use Rattle.label_table.specs.declared.judgement.Asked.{Asked}
-use Rattle.label_table.specs.declared.reply.Stale.{Stale}
-use Rattle.label_table.specs.Layer.{Layer, answering_step, asking_step}
-use Rattle.orb_layout.specs.declared.login.LoginResponse.{LoginResponse}
-use Rattle.orb_layout.specs.declared.status.StatusKind.{StatusKind}
-use Rattle.orb_list.specs.Lists.{ListState, drop_lists, free_lists}
-use Rattle.orb_list.specs.Tickets.{TicketParts}
-use Rattle.sbp_initiator.specs.declared.purpose.Ending.{Ending}
 use Rattle.sbp_initiator.specs.declared.purpose.Ending.TheVariants as endings
-use Rattle.sbp_initiator.specs.declared.purpose.Purpose.{Purpose}
 use Rattle.sbp_initiator.specs.declared.purpose.Purpose.TheVariants as purposes
-use Rattle.sbp_initiator.specs.declared.purpose.Running.{Running}
-use Rattle.sbp_initiator.specs.declared.state.InitiatorState.{InitiatorState}
-use Rattle.sbp_initiator.specs.Effects.{Turn, ask_quad, asked_quad, conflict_for, conflict_step, drop_list_step, dropped_as, end_own_for, end_own_step, end_step, ended_for, ended_step, fail_step, fault_number, finish_rom, is_address, is_conflict, known_where, moved, moves_session, next_quad, pointed_step, quad_got, state_told, stick_step, told, with_answered, with_dead, with_request, with_rom, with_unit}
-use Rattle.sbp_initiator.specs.Receiving.{answer_of, called, expired_as, respond_step, responded_as, taken_as, taken_by}
-use Rattle.sbp_initiator.specs.Seeing.{all_end, interrupted, reset_told, resets_told, seen_as, states_end}
-use Rattle.sbp_initiator.specs.States.{counts_for, is_list, no_marks}
-use Rattle.sbp_journal.specs.Outgoings.{OutboxState, empty_outbox}
-use Rattle.sbp_journal.specs.Run.{Moment}
-use Rattle.sbp_journal.specs.declared.note.Note.{Note}
 use Rattle.sbp_journal.specs.declared.note.Note.TheVariants as notes
-use Rattle.sbp_journal.specs.declared.operation.Operation.{Operation}
 use Rattle.sbp_journal.specs.declared.operation.Operation.TheVariants as operations
-use Rattle.sbp_journal.specs.declared.operation.OpWord.{OpWord}
 use Rattle.sbp_journal.specs.declared.operation.OpWord.TheVariants as words
 use Rattle.sbp_journal.specs.declared.side.Side.TheVariants as sides
 use Rattle.sbp_session.proofs.Rows.{response_by_moves}
-use Rattle.sbp_session.specs.Laws.{carried, carried_on}
-use Rattle.sbp_session.specs.Moves.{Event, bad, conflict, entered, failed, goes, good, pointed, pointing, reset, sent}
-use Rattle.sbp_session.specs.Seats.{is_stuck_seat}
-use Rattle.sbp_session.specs.declared.seat.Seat.{Seat}
 use Rattle.sbp_session.specs.declared.seat.Seat.TheVariants as seats
 use Rattle.sbp_world.proofs.Sessions.Gears.{gear_at, is_mild, mild_gear}
 use Rattle.sbp_world.proofs.Sessions.Places.{Stand, drop_places, free_places, unpin_places}

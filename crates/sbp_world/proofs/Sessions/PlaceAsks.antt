@@ -1,24 +1,10 @@
 -- An operation with a management ORB is asked for with the address of the place in which its ORB stands then.
-use Rattle.std.proofs.Common.{◌≡◌, ◌∙◌, refl, sym, ap, subst, ℕ, is_some, Bool, true, cond, List, [], ◌∷◌, ◌++◌, Option, Some, None}
-use Rattle.sbp_world.specs.Hosts.Calling.{IsCalled}
+use Rattle.sbp_world.proofs.Words.Std.{◌≡◌, ◌∙◌, refl, sym, ap, subst, ℕ, is_some, Bool, true, cond, List, [], ◌∷◌, ◌++◌, Option, Some, None}
+use Rattle.sbp_world.proofs.Words.Wire.{Asked, Layer, Action, Outgoing, OutboxState, empty_outbox}
+use Rattle.sbp_world.proofs.Words.Initiator.{held_after, with_orb, orb_in, ManagementOrb, management_bytes, IsAction, act_step, asked_as, asked_for, demand_of, demanded_as, done_step, facts_with, judged_as, manage_demand, orb_by, Demand, Purpose, InitiatorState, operation_of, refusal, place_of}
+use Rattle.sbp_world.proofs.Words.World.{IsCalled, AskingLaw, AsksFor}
 use Rattle.sbp_world.proofs.Hosts.Calling.{calls_law}
-use Rattle.sbp_initiator.specs.Histories.Served.{held_after, with_orb}
-use Rattle.sbp_initiator.specs.Histories.Slots.{orb_in}
-use Rattle.label_table.specs.declared.judgement.Asked.{Asked}
-use Rattle.label_table.specs.Layer.{Layer}
-use Rattle.orb_layout.specs.declared.management.ManagementOrb.{ManagementOrb}
-use Rattle.orb_layout.specs.ManagementOrbs.{management_bytes}
-use Rattle.sbp_initiator.specs.Acting.{IsAction, act_step, asked_as, asked_for, demand_of, demanded_as, done_step, facts_with, judged_as, manage_demand, orb_by}
-use Rattle.sbp_initiator.specs.declared.purpose.Demand.{Demand}
-use Rattle.sbp_initiator.specs.declared.purpose.Purpose.{Purpose}
-use Rattle.sbp_initiator.specs.declared.state.InitiatorState.{InitiatorState}
-use Rattle.sbp_initiator.specs.Refusals.{operation_of, refusal}
-use Rattle.sbp_initiator.specs.States.{place_of}
-use Rattle.sbp_journal.specs.declared.event.Action.{Action}
 use Rattle.sbp_journal.specs.declared.event.Action.TheVariants as actions
-use Rattle.sbp_journal.specs.declared.outbox.Outgoing.{Outgoing}
-use Rattle.sbp_journal.specs.Outgoings.{OutboxState, empty_outbox}
-use Rattle.sbp_world.specs.Sessions.Asking.{AskingLaw, AsksFor}
 use Rattle.sbp_world.proofs.Sessions.PlaceRuns.{acts_held}
 use Rattle.sbp_world.proofs.Common.{untrue, same_number}
 

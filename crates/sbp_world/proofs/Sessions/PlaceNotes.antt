@@ -1,52 +1,23 @@
 -- What the notes of a history leave of the management ORBs in an initiator's places, and what its own request brings there: the ORB of its action.
-use Rattle.std.proofs.Common.{arith, ◌≡◌, ◌∙◌, refl, sym, ap, ℕ, zero, suc, ◌%◌, ◌<◌, ◌==◌, ◌&&◌, not, is_some, Bool, true, false, cond, List, [], ◌∷◌, length, Option, Some, None}
-use Rattle.std.proofs.lemmas.Bool.Decides.{nat_tests}
-use Rattle.std.proofs.lemmas.Bool.{not-false}
+use Rattle.sbp_world.proofs.Words.Std.{arith, ◌≡◌, ◌∙◌, refl, sym, ap, ℕ, zero, suc, ◌%◌, ◌<◌, ◌==◌, ◌&&◌, not, is_some, Bool, true, false, cond, List, [], ◌∷◌, length, Option, Some, None, nat_tests, not-false}
+use Rattle.sbp_world.proofs.Words.Wire.{Moment, said, Action, Event, Note, Operation, Side}
+use Rattle.sbp_world.proofs.Words.Initiator.{start, login_fifo, own, with_orb, orb_in, LoginResponse, ManagementOrb, management_bytes, PresentList, find_in, slot_in, waiting, TicketParts, address_of, login_orb, orb_by, orb_for, InitiatorState, is_in_held, is_in_live, operation_of, place_of, session_of, carried, response_in, Seat}
+use Rattle.sbp_world.proofs.Words.Laws.{action_notes, Host, host_at, is_management, present_list, slot_at, is_own, management_orb_of, orb_address, place_bytes, place_held, place_written, plain_orb, event_of}
+use Rattle.sbp_world.proofs.Words.World.{behind, AreRows, present_in}
 use Rattle.bus_memory.specs.declared.window.Window.TheVariants as windows
-use Rattle.bus_memory.specs.Windows.{start}
-use Rattle.sbp_world.specs.Hosts.Calls.{behind}
-use Rattle.sbp_world.specs.Hosts.Fits.{AreRows, IsOf}
-use Rattle.sbp_world.specs.Hosts.Rows.{present_in}
+use Rattle.sbp_world.specs.Hosts.Fits.{IsOf}
 use Rattle.sbp_world.proofs.Hosts.Acts.{Goes, found_number}
 use Rattle.sbp_world.proofs.Hosts.Beside.{find_waits, found_here, found_list, found_small}
 use Rattle.sbp_world.proofs.Hosts.Carries.{IsNoAct, is_apart}
 use Rattle.sbp_world.proofs.Hosts.Layered.{AreTame, is_tame}
 use Rattle.sbp_world.proofs.Hosts.Over.{last_at}
 use Rattle.orb_list.proofs.Tied.{waits_last}
-use Rattle.initiator_base.specs.Places.{login_fifo}
-use Rattle.sbp_initiator.specs.Histories.Ends.{own}
-use Rattle.sbp_initiator.specs.Histories.Served.{with_orb}
-use Rattle.sbp_initiator.specs.Histories.Slots.{orb_in}
-use Rattle.orb_layout.specs.declared.login.LoginResponse.{LoginResponse}
-use Rattle.orb_layout.specs.declared.management.ManagementOrb.{ManagementOrb}
-use Rattle.orb_layout.specs.ManagementOrbs.{management_bytes}
-use Rattle.orb_list.specs.declared.list.PresentList.{PresentList}
-use Rattle.orb_list.specs.Table.{find_in, slot_in, waiting}
-use Rattle.orb_list.specs.Tickets.{TicketParts}
-use Rattle.sbp_initiator.specs.Acting.{address_of, login_orb, orb_by, orb_for}
-use Rattle.sbp_initiator.specs.declared.state.InitiatorState.{InitiatorState}
-use Rattle.sbp_initiator.specs.Refusals.{is_in_held, is_in_live, operation_of}
-use Rattle.sbp_initiator.specs.States.{place_of, session_of}
-use Rattle.sbp_journal.specs.Run.{Moment, said}
-use Rattle.sbp_journal.specs.declared.event.Action.{Action}
 use Rattle.sbp_journal.specs.declared.event.Action.TheVariants as actions
-use Rattle.sbp_journal.specs.declared.event.Event.{Event}
 use Rattle.sbp_journal.specs.declared.event.Event.TheVariants as events
-use Rattle.sbp_journal.specs.declared.note.Note.{Note}
 use Rattle.sbp_journal.specs.declared.note.Note.TheVariants as notes
-use Rattle.sbp_journal.specs.declared.operation.Operation.{Operation}
 use Rattle.sbp_journal.specs.declared.operation.Operation.TheVariants as operations
-use Rattle.sbp_journal.specs.declared.side.Side.{Side}
 use Rattle.sbp_journal.specs.declared.side.Side.TheVariants as sides
-use Rattle.sbp_laws.specs.Actions.{action_notes}
-use Rattle.sbp_laws.specs.Hosts.{Host, host_at, is_management}
-use Rattle.sbp_laws.specs.Lists.{present_list, slot_at}
-use Rattle.sbp_laws.specs.Served.{is_own, management_orb_of, orb_address, place_bytes, place_held, place_written, plain_orb}
 use Rattle.sbp_laws.specs.Hosts as hosts
-use Rattle.sbp_laws.specs.Turns.{event_of}
-use Rattle.sbp_session.specs.Laws.{carried}
-use Rattle.sbp_session.specs.Seats.{response_in}
-use Rattle.sbp_session.specs.declared.seat.Seat.{Seat}
 use Rattle.sbp_session.specs.declared.seat.Seat.TheVariants as seats
 use Rattle.sbp_world.proofs.Common.{untrue, same_number}
 

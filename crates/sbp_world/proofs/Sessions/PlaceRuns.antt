@@ -1,15 +1,12 @@
 -- In every run the places of management of an initiator hold the ORBs of its operations.
-use Rattle.std.proofs.Common.{◌≡◌, ◌∙◌, refl, sym, ap, subst, ℕ, suc, ◌<◌, Bool, true, false, List, [], ◌∷◌, ◌++◌, Option, Some, None, ◌-◌, drop, take}
-use Rattle.async_packet.specs.Labels.{LabelParts}
-use Rattle.bus_memory.specs.Memory.{place_at}
+use Rattle.sbp_world.proofs.Words.Std.{◌≡◌, ◌∙◌, refl, sym, ap, subst, ℕ, suc, ◌<◌, Bool, true, false, List, [], ◌∷◌, ◌++◌, Option, Some, None, ◌-◌, drop, take}
+use Rattle.sbp_world.proofs.Words.Wire.{LabelParts, Asked, Layer, judged_note, OutboxState, empty_outbox, Moment, asks, said, Judged, Action, Note, Outgoing, Side}
+use Rattle.sbp_world.proofs.Words.Initiator.{place_at, IfShare, start, Call, IsCall, acts, after_calls, done, lets_expire, receives, sees, held_after, held_by, held_if, with_orb, orb_in, ManagementOrb, act_step, asked_as, asked_for, demand_of, demanded_as, facts_with, judged_as, Demand, Purpose, InitiatorState, Turn, new_state, expire_step, receive_step, operation_of, refusal, see_step, place_of}
+use Rattle.sbp_world.proofs.Words.Laws.{is_own, place_bytes, place_held, window_gives, event_of}
+use Rattle.sbp_world.proofs.Words.World.{IsCalled, behind, Core, AreRows, history_of, GotBlocks, ArePlaces, HoldsPlaces, PlacedLaw}
 use Rattle.bus_memory.specs.declared.window.Window.TheVariants as windows
-use Rattle.bus_memory.specs.Windows.{IfShare, start}
 use Rattle.bus_memory.proofs.Found.{window_share}
 use Rattle.sbp_world.proofs.Hosts.MemoryRcodes.{read_bytes}
-use Rattle.sbp_world.specs.Hosts.Calling.{IsCalled}
-use Rattle.sbp_world.specs.Hosts.Calls.{behind}
-use Rattle.sbp_world.specs.Hosts.Core.{Core}
-use Rattle.sbp_world.specs.Hosts.Fits.{AreRows}
 use Rattle.sbp_world.proofs.Hosts.ActLeft.{act_left}
 use Rattle.sbp_world.proofs.Hosts.Alone.{call_same}
 use Rattle.sbp_world.proofs.Hosts.Carried.{between_runs, of_runs}
@@ -20,41 +17,12 @@ use Rattle.sbp_world.proofs.Hosts.PointSees.{see_left}
 use Rattle.sbp_world.proofs.Hosts.PointerNotes.{tame_told}
 use Rattle.sbp_world.proofs.Hosts.Telling.{action_law}
 use Rattle.sbp_world.proofs.Hosts.Shown.{IsShown}
-use Rattle.sbp_initiator.specs.Histories.Laws.{Call, IsCall, acts, after as after_calls, done, lets_expire, receives, sees}
-use Rattle.sbp_initiator.specs.Histories.Served.{held_after, held_by, held_if, with_orb}
-use Rattle.sbp_initiator.specs.Histories.Slots.{orb_in}
 use Rattle.sbp_initiator.proofs.Histories.Served.{reads_law}
-use Rattle.label_table.specs.declared.judgement.Asked.{Asked}
-use Rattle.label_table.specs.Layer.{Layer}
-use Rattle.orb_layout.specs.declared.management.ManagementOrb.{ManagementOrb}
-use Rattle.sbp_bus.specs.Packets.{judged_note}
-use Rattle.sbp_initiator.specs.Acting.{act_step, asked_as, asked_for, demand_of, demanded_as, facts_with, judged_as}
-use Rattle.sbp_initiator.specs.declared.purpose.Demand.{Demand}
-use Rattle.sbp_initiator.specs.declared.purpose.Purpose.{Purpose}
-use Rattle.sbp_initiator.specs.declared.state.InitiatorState.{InitiatorState}
-use Rattle.sbp_initiator.specs.Effects.{Turn}
-use Rattle.sbp_initiator.specs.Initiators.{new_state}
-use Rattle.sbp_initiator.specs.Receiving.{expire_step, receive_step}
-use Rattle.sbp_initiator.specs.Refusals.{operation_of, refusal}
-use Rattle.sbp_initiator.specs.Seeing.{see_step}
-use Rattle.sbp_initiator.specs.States.{place_of}
-use Rattle.sbp_journal.specs.Outgoings.{OutboxState, empty_outbox}
-use Rattle.sbp_journal.specs.Run.{Moment, asked as asks, said}
-use Rattle.sbp_journal.specs.declared.cause.Judged.{Judged}
 use Rattle.sbp_journal.specs.declared.cause.Judged.TheVariants as judgements
-use Rattle.sbp_journal.specs.declared.event.Action.{Action}
 use Rattle.sbp_journal.specs.declared.event.Action.TheVariants as actions
 use Rattle.sbp_journal.specs.declared.event.Event.TheVariants as events
-use Rattle.sbp_journal.specs.declared.note.Note.{Note}
 use Rattle.sbp_journal.specs.declared.note.Note.TheVariants as notes
-use Rattle.sbp_journal.specs.declared.outbox.Outgoing.{Outgoing}
-use Rattle.sbp_journal.specs.declared.side.Side.{Side}
 use Rattle.sbp_laws.specs.Hosts as hosts
-use Rattle.sbp_laws.specs.Served.{is_own, place_bytes, place_held, window_gives}
-use Rattle.sbp_laws.specs.Turns.{event_of}
-use Rattle.sbp_world.specs.Histories.{history_of}
-use Rattle.sbp_world.specs.Sessions.Blocks.{GotBlocks}
-use Rattle.sbp_world.specs.Sessions.Placed.{ArePlaces, HoldsPlaces, PlacedLaw}
 use Rattle.sbp_world.proofs.Sessions.BlockRuns.{blocks_law}
 use Rattle.sbp_world.proofs.Sessions.HoldingRuns.{Held, behind_blocks, first_held, held_carried, peel}
 use Rattle.sbp_world.proofs.Sessions.PlaceNotes.{Hosted, acted_places, apart_places, is_packet, note_places, own_places, sent_places, silent_told, told_places, written_same}

@@ -1,20 +1,10 @@
 -- What the steps of an initiator's slots leave of its places of management: all of them.
-use Rattle.std.proofs.Common.{◌≡◌, refl, ℕ, List, [], ◌∷◌, Option, Some, None, Result, Ok, Err}
+use Rattle.sbp_world.proofs.Words.Std.{◌≡◌, refl, ℕ, List, [], ◌∷◌, Option, Some, None, Result, Ok, Err}
+use Rattle.sbp_world.proofs.Words.Wire.{Cmd}
+use Rattle.sbp_world.proofs.Words.Initiator.{Memory, with_bytes, StatusBlock, ListFault, Linking, behind, data_in_segments, data_written, written, AnswerPlan, ListState, drop_lists, dummy_lists, free_lists, high_lists, low_lists, pin_lists, planned_as, take_lists, unpin_lists, with_slots, Asked, SlotTable, checked, closed, dummy_at, dummy_step, free_all_step, high_for, high_step, low_for, may_prepare, pin_step, prepare_at, prepare_step, slot_in, status_at, status_for, unpin_for, unpin_step, waiting, waits_high, waits_low, TicketParts, slot_of, asked_by, put_lists}
 use Rattle.std.specs.Prelude.{is_some, take, drop, Bool, true, false, cond}
 use Rattle.bus_memory.specs.declared.window.Window.TheVariants as windows
-use Rattle.bus_memory.specs.Memory.{Memory, with_bytes}
-use Rattle.orb_layout.specs.declared.status.StatusBlock.{StatusBlock}
-use Rattle.orb_list.specs.declared.fault.ListFault.{ListFault}
-use Rattle.orb_list.specs.declared.list.Linking.{Linking}
-use Rattle.orb_list.specs.Layout.{behind, data_in_segments, data_written, written}
-use Rattle.orb_list.specs.declared.answer.AnswerPlan.{AnswerPlan}
-use Rattle.orb_list.specs.Lists.{ListState, drop_lists, dummy_lists, free_lists, high_lists, low_lists, pin_lists, planned_as, take_lists, unpin_lists, with_slots}
-use Rattle.orb_list.specs.Requests.{Asked}
-use Rattle.orb_list.specs.Table.{SlotTable, checked, closed, dummy_at, dummy_step, free_all_step, high_for, high_step, low_for, low_step, may_prepare, pin_step, prepare_at, prepare_step, slot_in, status_at, status_for, status_step, unpin_for, unpin_step, waiting, waits_high, waits_low}
-use Rattle.orb_list.specs.Tickets.{TicketParts}
-use Rattle.bus_memory.specs.Windows.{slot_of}
-use Rattle.sbp_initiator.specs.Commands.{asked_by, put_lists}
-use Rattle.sbp_journal.specs.declared.event.Cmd.{Cmd}
+use Rattle.orb_list.specs.Table.{low_step, status_step}
 
 -- the places of a memory stand
 abbrev pub Stand : Memory → Memory → Type 0

@@ -1,18 +1,9 @@
 -- A step of an initiator's slots begins no list, but for one that prepares an ORB.
-use Rattle.std.proofs.Common.{◌≡◌, ◌∙◌, refl, sym, ap, ℕ, is_some, true, false, List, Option, Some, None}
-use Rattle.std.proofs.lemmas.Bool.{false≢true}
-use Rattle.bus_memory.specs.Memory.{Memory}
+use Rattle.sbp_world.proofs.Words.Std.{◌≡◌, ◌∙◌, refl, sym, ap, ℕ, is_some, true, false, List, Option, Some, None, false≢true}
+use Rattle.sbp_world.proofs.Words.Initiator.{Memory, ManagementOrb, StatusBlock, Link, Linking, PresentList, ListState, drop_lists, dummy_lists, free_lists, high_lists, low_lists, manage_lists, pin_lists, take_lists, unpin_lists, write_lists, SlotTable, drop_for, drop_step, free_all_step, high_for, high_step, link_set, low_for, passed_for, slot_in, status_at, status_for, waiting, waits_high, waits_low, TicketParts, slot_of}
 use Rattle.sbp_initiator.proofs.Histories.Actions.{dummy_present, pins_present}
 use Rattle.sbp_initiator.proofs.Histories.Effects.{unpin_present}
-use Rattle.orb_layout.specs.declared.management.ManagementOrb.{ManagementOrb}
-use Rattle.orb_layout.specs.declared.status.StatusBlock.{StatusBlock}
-use Rattle.orb_list.specs.declared.list.Link.{Link}
-use Rattle.orb_list.specs.declared.list.Linking.{Linking}
-use Rattle.orb_list.specs.declared.list.PresentList.{PresentList}
-use Rattle.orb_list.specs.Lists.{ListState, drop_lists, dummy_lists, free_lists, high_lists, low_lists, manage_lists, pin_lists, take_lists, unpin_lists, write_lists}
-use Rattle.orb_list.specs.Table.{SlotTable, drop_for, drop_step, free_all_step, high_for, high_step, link_set, low_for, low_step, passed_for, slot_in, status_at, status_for, status_step, waiting, waits_high, waits_low}
-use Rattle.orb_list.specs.Tickets.{TicketParts}
-use Rattle.bus_memory.specs.Windows.{slot_of}
+use Rattle.orb_list.specs.Table.{low_step, status_step}
 
 -- a list is present only where one was
 abbrev pub Fewer : ListState → ListState → Type 0

@@ -1,65 +1,29 @@
 -- In every run the target knows caught up nodes alone, and live sessions are of generations that it has seen.
-use Rattle.std.proofs.Common.{is_some, not, arith, ◌≡◌, ◌∙◌, refl, sym, ap, subst, ℕ, suc, ◌+◌, ◌^◌, ◌<◌, ◌≤◌, nat_lt, Bool, true, false, List, [], ◌∷◌, ◌++◌, length, map, replicate, Option, Some, None}
-use Rattle.std.specs.Prelude.{is_none, slice_index_or}
-use Rattle.std.proofs.lemmas.Bool.Decides.{nat_tests}
-use Rattle.std.proofs.lemmas.Grind.{common_steps}
-use Rattle.std.proofs.lemmas.List.{get_or-replicate, length-replicate}
-use Rattle.std.proofs.lemmas.Bool.{false≢true}
-use Rattle.sbp_world.specs.Agents.Agents.{AreAgentsAt}
-use Rattle.sbp_world.specs.Agents.Holders.{AreHeldAt}
+use Rattle.sbp_world.proofs.Words.Std.{is_some, not, arith, ◌≡◌, ◌∙◌, refl, sym, ap, subst, ℕ, suc, ◌+◌, ◌^◌, ◌<◌, ◌≤◌, nat_lt, Bool, true, false, List, [], ◌∷◌, ◌++◌, length, map, replicate, Option, Some, None, is_none, slice_index_or, nat_tests, common_steps, get_or-replicate, length-replicate, false≢true}
+use Rattle.sbp_world.proofs.Words.Wire.{Topology, first_topology, id_of, no_topology, topology_at, Moment, asked, said, Terms, terms, Event}
+use Rattle.sbp_world.proofs.Words.Target.{Phase, state_in, is_reset, Login, is_live, Operation, source_in, Disk, Told, desk_at, login_at}
+use Rattle.sbp_world.proofs.Words.Initiator.{Seat}
+use Rattle.sbp_world.proofs.Words.Laws.{host_at, present_list, agent_at, initiator_in, over, target_at}
+use Rattle.sbp_world.proofs.Words.World.{AreAgentsAt, AreHeldAt, Core, session_in, IsRun, ReadAs, IsHost, FitsLogin, FitsOperation, Holds, history_of, new_world, ready_logins, AreEntries, Entry, Run, after, beginning, MayAll, after_all, AreLines, Stands, WorldState, begun, initiator_at, DeliversMore, CaughtBetweenLaw, CaughtLaw, HasCaught, HaveCaught, IsJoined, JoinedBetweenLaw, JoinedLaw, is_joined}
 use Rattle.sbp_world.proofs.Agents.CrewRuns.{agents_between_law, agents_run_law}
 use Rattle.sbp_world.proofs.Agents.Holders.{holders_between_law, holders_law}
-use Rattle.command_agent.specs.declared.phase.Phase.{Phase}
-use Rattle.command_agent.specs.Machine.{state_in}
-use Rattle.command_agent.specs.Steps.{is_reset}
-use Rattle.sbp_world.specs.Hosts.Core.{Core, session_in}
-use Rattle.sbp_world.specs.Hosts.Runs.{IsRun}
 use Rattle.sbp_world.proofs.Hosts.Hosted.{host_law}
 use Rattle.sbp_world.proofs.Hosts.Readings.{read_law}
 use Rattle.sbp_world.proofs.Hosts.Runs.{count_after, count_between, run_law, are_told}
-use Rattle.sbp_world.specs.Hosts.Reading.{ReadAs}
-use Rattle.sbp_world.specs.Hosts.Worlds.{IsHost}
-use Rattle.login_table.specs.declared.login.Login.{Login}
-use Rattle.login_table.specs.Table.{is_live}
-use Rattle.mgmt_agent.specs.declared.operation.Operation.{Operation}
-use Rattle.mgmt_agent.specs.Machine.{source_in}
-use Rattle.rbc_disk.specs.Disk.{Disk}
-use Rattle.rbc_disk.specs.Runs.{Told}
-use Rattle.sbp_bus.specs.declared.generations.Topology.{Topology}
-use Rattle.sbp_bus.specs.Generations.{first_topology, id_of, no_topology, topology_at}
 use Rattle.sbp_bus.proofs.Making.{ids_size}
-use Rattle.sbp_journal.specs.Run.{Moment, asked, said}
-use Rattle.sbp_journal.specs.Wire.{Terms, terms}
-use Rattle.sbp_journal.specs.declared.event.Event.{Event}
 use Rattle.sbp_journal.specs.declared.event.Event.TheVariants as events
-use Rattle.sbp_laws.specs.Hosts.{host_at}
-use Rattle.sbp_laws.specs.Lists.{present_list}
-use Rattle.sbp_laws.specs.Targets.{agent_at, initiator_at as initiator_in, over, target_at}
-use Rattle.sbp_session.specs.declared.seat.Seat.{Seat}
 use Rattle.sbp_session.specs.declared.seat.Seat.TheVariants as seats
-use Rattle.sbp_target.specs.Nodes.{desk_at, login_at}
-use Rattle.sbp_world.specs.FitTarget.{FitsLogin, FitsOperation, Holds}
-use Rattle.sbp_world.specs.Histories.{history_of}
-use Rattle.sbp_world.specs.Making.{new_world, ready_logins}
-use Rattle.sbp_world.specs.Runs.{AreEntries, Entry, Run, after, beginning}
-use Rattle.sbp_world.specs.Settling.{MayAll, after_all}
-use Rattle.sbp_world.specs.Wire.Lines.{AreLines}
-use Rattle.sbp_world.specs.Wire.Wires.{Stands}
-use Rattle.sbp_world.specs.Worlds.{WorldState, begun, initiator_at}
 use Rattle.sbp_world.proofs.FitTarget.Law.{fitting_law}
 use Rattle.sbp_world.proofs.Making.{initiators_size}
 use Rattle.sbp_world.proofs.Wire.Found.{has_id, known_has, node_found}
 use Rattle.sbp_world.proofs.Wire.Starts.{first_id}
 use Rattle.sbp_world.proofs.Wire.ToldBytes.{happened_fits}
 use Rattle.sbp_target.proofs.Histories.Calling.{not_eight}
-use Rattle.sbp_world.specs.Agents.Management.Terms.{DeliversMore}
 use Rattle.sbp_world.proofs.Agents.Management.Begins.{first_holds}
 use Rattle.sbp_world.proofs.Agents.Management.Holding.{Holding, good_of, known_id}
 use Rattle.sbp_world.proofs.Agents.Management.Lines.{all_heard, opens}
 use Rattle.sbp_world.proofs.Agents.Management.Runs.{holds_after, no_repeats, not_reset}
 use Rattle.sbp_world.proofs.Agents.Management.Still.{hist}
-use Rattle.sbp_world.specs.Sessions.Caught.{CaughtBetweenLaw, CaughtLaw, HasCaught, HaveCaught}
-use Rattle.sbp_world.specs.Sessions.Joined.{IsJoined, JoinedBetweenLaw, JoinedLaw, is_joined}
 use Rattle.sbp_world.proofs.Sessions.Caught.{Met, Seen, Up, is_in, is_up, sits_any, up_later, up_of}
 use Rattle.sbp_world.proofs.Sessions.Lines.{all_met, line_met, opened}
 use Rattle.sbp_world.proofs.Sessions.Turns.{wire_generation}

@@ -1,20 +1,12 @@
 -- In every run a live login of the target is the only one of its node on its unit.
-use Rattle.std.proofs.Common.{arith, ◌≡◌, ◌∙◌, refl, sym, subst, ℕ, ◌<◌, nat_eq, Bool, true, false, List, ◌∷◌, ◌++◌, map, Option}
-use Rattle.std.proofs.lemmas.Bool.Decides.{nat_tests}
-use Rattle.login_table.specs.declared.login.Login.{Login}
-use Rattle.login_table.specs.Sound.{IsSound}
-use Rattle.login_table.specs.Table.{Table}
-use Rattle.rbc_disk.specs.Disk.{Disk}
-use Rattle.sbp_journal.specs.Run.{Moment, asked, said}
-use Rattle.sbp_world.specs.Making.{ready_logins}
-use Rattle.sbp_world.specs.Runs.{after, beginning}
-use Rattle.sbp_world.specs.Settling.{after_all}
-use Rattle.sbp_world.specs.Worlds.{WorldState, begun}
+use Rattle.sbp_world.proofs.Words.Std.{arith, ◌≡◌, ◌∙◌, refl, sym, subst, ℕ, ◌<◌, nat_eq, Bool, true, false, List, ◌∷◌, ◌++◌, map, Option, nat_tests}
+use Rattle.sbp_world.proofs.Words.Wire.{Moment, asked, said}
+use Rattle.sbp_world.proofs.Words.Target.{Login, IsSound, Table, Disk}
+use Rattle.sbp_world.proofs.Words.World.{ready_logins, after, beginning, after_all, WorldState, begun, AreSingle, AreSingleIn, SingleLaw}
 use Rattle.sbp_world.proofs.Agents.Management.Holding.{Holding, good_of}
 use Rattle.sbp_world.proofs.Agents.Management.Lines.{all_heard, opens}
 use Rattle.sbp_world.proofs.Agents.Management.Runs.{holds_after, no_repeats, not_reset}
 use Rattle.sbp_world.proofs.Agents.Management.Still.{hist}
-use Rattle.sbp_world.specs.Sessions.Single.{AreSingle, AreSingleIn, SingleLaw}
 use Rattle.sbp_world.proofs.Hosts.Runs.{are_told}
 
 module _ (places : List (Option Login)) (sound : IsSound places) where

@@ -1,28 +1,15 @@
 -- Each call of a target changes the live logins of the node whose operation is under way alone, but for the sight of a later generation.
-use Rattle.std.proofs.Common.{◌≡◌, ◌∙◌, refl, sym, ap, subst, ℕ, Bool, true, false, cond, List, map, Option, Some, None, Result, Ok, Err}
-use Rattle.std.proofs.Math.ListN.{get_or-map}
-use Rattle.std.proofs.lemmas.Bool.{false≢true}
-use Rattle.async_packet.specs.Labels.{LabelParts}
-use Rattle.label_table.specs.declared.reply.Stale.{Stale}
-use Rattle.label_table.specs.Layer.{Finding, Layer, expiring_step, judging_step, of_again, of_generation, of_grammar, of_label, of_request, of_response, seeing_step}
-use Rattle.login_table.specs.declared.login.Login.{Login}
-use Rattle.login_table.specs.Table.{Table, held, held_for, is_last, is_live, one_less, place_at, ticked as login_ticked}
+use Rattle.sbp_world.proofs.Words.Std.{◌≡◌, ◌∙◌, refl, sym, ap, subst, ℕ, Bool, true, false, cond, List, map, Option, Some, None, Result, Ok, Err, get_or-map, false≢true}
+use Rattle.sbp_world.proofs.Words.Wire.{LabelParts, Stale, Finding, Layer, expiring_step, judging_step, of_again, of_generation, of_grammar, of_label, of_request, of_response, seeing_step, empty_outbox}
+use Rattle.sbp_world.proofs.Words.Target.{Login, Table, held, held_for, is_last, is_live, one_less, place_at, login_ticked, Disk, Told, Purpose, after, alone, lets_expire, sees, ticks, NodeState, Scene, scene, answer_in, cleared_node, received, reset_by, seen, ticked, cut_all, whole}
+use Rattle.sbp_world.proofs.Words.Initiator.{Expired}
+use Rattle.sbp_world.proofs.Words.World.{AreSame, LoginsStand}
 use Rattle.mgmt_agent.specs.Machine as management
-use Rattle.orb_layout.specs.Replies.{Expired}
-use Rattle.rbc_disk.specs.Disk.{Disk}
-use Rattle.rbc_disk.specs.Runs.{Told}
-use Rattle.sbp_journal.specs.Outgoings.{empty_outbox}
-use Rattle.sbp_target.specs.declared.purpose.Purpose.{Purpose}
 use Rattle.sbp_target.specs.declared.purpose.Purpose.TheVariants as purposes
-use Rattle.sbp_target.specs.Calls.{after, alone, lets_expire, sees, ticks}
-use Rattle.sbp_target.specs.Nodes.{NodeState, Scene, scene}
-use Rattle.sbp_target.specs.Receiving.{answer_in, cleared_node, received, reset_by, seen, ticked}
-use Rattle.sbp_target.specs.Units.{cut_all}
 use Rattle.sbp_journal.specs.declared.cause.CutCause.TheVariants as cuts
-use Rattle.sbp_target.specs.Replies.{whole}
 use Rattle.sbp_target.proofs.Histories.Calling.{Good}
 use Rattle.sbp_target.proofs.Histories.Settled.{all_good}
-use Rattle.sbp_world.specs.Sessions.Standing.{AreSame, LoginsStand, StandingLaw}
+use Rattle.sbp_world.specs.Sessions.Standing.{StandingLaw}
 use Rattle.sbp_world.proofs.Sessions.Logins.{reply_same, same}
 use Rattle.sbp_world.proofs.Sessions.Tables.{delivery_tabled, lapse_tabled, lapsed_table, tabled}
 

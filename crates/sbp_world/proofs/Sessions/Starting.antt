@@ -1,47 +1,21 @@
 -- An operation of the management comes under way by a request to MANAGEMENT_AGENT alone.
-use Rattle.std.proofs.Common.{◌≡◌, ◌∙◌, refl, sym, ap, ◌⊎◌, inl, inr, ℕ, ◌+◌, ◌*◌, ◌^◌, ◌==◌, Bool, true, false, cond, List, [], ◌∷◌, length, Option, Some, None, Result, Ok, Err}
-use Rattle.std.specs.Prelude.{is_none, position}
-use Rattle.async_packet.specs.Packet.{Packet, header_in}
-use Rattle.label_table.specs.declared.reply.Stale.{Stale}
-use Rattle.label_table.specs.Layer.{Finding, expiring_step, judging_step, of_again, of_generation, of_grammar, of_label, of_request, of_response, seeing_step}
-use Rattle.login_table.specs.Table.{Table}
-use Rattle.mgmt_agent.specs.declared.decision.ManagerStep.{ManagerStep}
+use Rattle.sbp_world.proofs.Words.Std.{◌≡◌, ◌∙◌, refl, sym, ap, ◌⊎◌, inl, inr, ℕ, ◌+◌, ◌*◌, ◌^◌, ◌==◌, Bool, true, false, cond, List, [], ◌∷◌, length, Option, Some, None, Result, Ok, Err, is_none, position, quad}
+use Rattle.sbp_world.proofs.Words.Wire.{Packet, header_in, Stale, Finding, expiring_step, judging_step, of_again, of_generation, of_grammar, of_label, of_request, of_response, seeing_step, function_word, login_if, Note, FunctionWord, Side, empty_outbox}
+use Rattle.sbp_world.proofs.Words.Target.{Table, ManagerStep, Operation, Status, decide, reads_eui, beside, cut_response, decide_step, decided_as, eui_step, high_eui_at, high_got, in_phase, low_got, orb_got, reply_in, reply_to, respond_step, response_written, start_step, start_with, status_step, status_written, Purpose, after, alone, lets_expire, sees, sets_key, ticks, NodeState, scene, answer_in, received, whole, is_barred, Demand, demand_of}
+use Rattle.sbp_world.proofs.Words.Initiator.{Nothing, FailCause, ManagementOrb, management_orb, Answer, Expired, payload_of, write_failure}
+use Rattle.sbp_world.proofs.Words.Laws.{Decided}
+use Rattle.sbp_world.proofs.Words.World.{CallsKeep, demanded, lapsed, requested, seen, Agrees, Office, by_managed, by_note, by_side, by_sides, placed, placed_by, replied, started, started_by, ticked, with_key, GoesOn, IsAsked, OperationsStart, StartingLaw}
 use Rattle.mgmt_agent.specs.declared.decision.Outcome.{Outcome}
-use Rattle.mgmt_agent.specs.declared.operation.Operation.{Operation}
 use Rattle.mgmt_agent.specs.declared.operation.Phase.{Phase}
 use Rattle.mgmt_agent.specs.declared.operation.Phase.TheVariants as phases
-use Rattle.mgmt_agent.specs.declared.status.Status.{Status}
-use Rattle.mgmt_agent.specs.Decisions.{decide, reads_eui}
-use Rattle.mgmt_agent.specs.Machine.{Machine, beside, cut_response, decide_step, decided_as, eui_step, high_eui_at, high_got, in_phase, low_got, orb_got, reply_in, reply_step, reply_to, respond_step, response_written, start_step, start_with, status_step, status_written}
-use Rattle.orb_layout.specs.declared.ask.Ask.TheVariants.{Nothing}
-use Rattle.orb_layout.specs.declared.ask.FailCause.{FailCause}
-use Rattle.orb_layout.specs.declared.management.ManagementOrb.{ManagementOrb}
-use Rattle.orb_layout.specs.ManagementOrbs.{management_orb}
-use Rattle.orb_layout.specs.Replies.{Answer, Expired, payload_of, write_failure}
-use Rattle.sbp_base.specs.Quadlets.{quad}
-use Rattle.sbp_bus.specs.Words.{function_word, login_if}
-use Rattle.sbp_journal.specs.declared.note.Note.{Note}
+use Rattle.mgmt_agent.specs.Machine.{Machine, reply_step}
 use Rattle.sbp_journal.specs.declared.note.Note.TheVariants as notes
-use Rattle.sbp_journal.specs.declared.operation.FunctionWord.{FunctionWord}
 use Rattle.sbp_journal.specs.declared.operation.FunctionWord.TheVariants as functions
-use Rattle.sbp_journal.specs.declared.side.Side.{Side}
 use Rattle.sbp_journal.specs.declared.side.Side.TheVariants as sides
-use Rattle.sbp_laws.specs.Targets.{Decided}
-use Rattle.sbp_target.specs.declared.purpose.Purpose.{Purpose}
 use Rattle.sbp_target.specs.declared.purpose.Purpose.TheVariants as purposes
-use Rattle.sbp_target.specs.Calls.{after, alone, lets_expire, sees, sets_key, ticks}
-use Rattle.sbp_journal.specs.Outgoings.{empty_outbox}
-use Rattle.sbp_target.specs.Nodes.{NodeState, scene}
-use Rattle.sbp_target.specs.Receiving.{answer_in, received}
-use Rattle.sbp_target.specs.Replies.{whole}
-use Rattle.sbp_target.specs.Serving.{is_barred}
-use Rattle.target_base.specs.declared.address.Demand.{Demand}
 use Rattle.target_base.specs.declared.address.Demand.TheVariants as demands
-use Rattle.target_base.specs.Addresses.{demand_of}
-use Rattle.sbp_world.specs.Agents.Management.Calls.{CallsKeep, delivered, demanded, lapsed, requested, seen}
-use Rattle.sbp_world.specs.Agents.Management.Offices.{Agrees, Office, by_managed, by_note, by_side, by_sides, placed, placed_by, replied, started, started_by, ticked, with_key}
+use Rattle.sbp_world.specs.Agents.Management.Calls.{delivered}
 use Rattle.sbp_world.proofs.Agents.Management.Calls.{management_law}
-use Rattle.sbp_world.specs.Sessions.Starting.{GoesOn, IsAsked, OperationsStart, StartingLaw}
 use Rattle.sbp_world.proofs.Common.{none_is}
 
 goes_on : (before : Option Operation) (now : Operation) → before ≡ Some now → GoesOn before now

@@ -1,39 +1,22 @@
 -- What a delivery to a target and a time-out make of its logins: what the reply to the management operation makes of them, and else nothing.
-use Rattle.std.proofs.Common.{◌≡◌, ◌∙◌, refl, sym, ℕ, List, Option, Some, None, Result, Ok, Err}
-use Rattle.async_packet.specs.Labels.{LabelParts}
-use Rattle.async_packet.specs.Packet.{Packet, header_in}
-use Rattle.label_table.specs.declared.reply.Stale.{Stale}
+use Rattle.sbp_world.proofs.Words.Std.{◌≡◌, ◌∙◌, refl, sym, ℕ, List, Option, Some, None, Result, Ok, Err}
+use Rattle.sbp_world.proofs.Words.Wire.{LabelParts, Packet, header_in, Stale, Finding, Layer, expiring_step, judging_step, of_again, of_generation, of_grammar, of_label, of_request, of_response, Judged, empty_outbox}
+use Rattle.sbp_world.proofs.Words.Target.{Table, ManagerStep, Operation, Disk, Told, Purpose, alone, lets_expire, decided_by, failed_by, manage, managed_in, managed_with, with_manager, NodeState, Scene, scene, answer_in, concluded, expired, expired_in, judged_scene, received, received_as, timed_out, with_layer, Whole, scene_of, whole, stay, still}
+use Rattle.sbp_world.proofs.Words.Initiator.{Nothing, Answer, Expired}
+use Rattle.sbp_world.proofs.Words.World.{Office}
 use Rattle.label_table.specs.History as wire
-use Rattle.label_table.specs.Layer.{Finding, Layer, expiring_step, judging_step, of_again, of_generation, of_grammar, of_label, of_request, of_response}
-use Rattle.login_table.specs.Table.{Table}
-use Rattle.mgmt_agent.specs.declared.decision.ManagerStep.{ManagerStep}
-use Rattle.mgmt_agent.specs.declared.operation.Operation.{Operation}
 use Rattle.mgmt_agent.specs.Machine as management
-use Rattle.orb_layout.specs.declared.ask.Ask.TheVariants.{Nothing}
-use Rattle.orb_layout.specs.Replies.{Answer, Expired}
-use Rattle.rbc_disk.specs.Disk.{Disk}
-use Rattle.rbc_disk.specs.Runs.{Told}
-use Rattle.sbp_journal.specs.declared.cause.Judged.{Judged}
-use Rattle.sbp_journal.specs.Outgoings.{empty_outbox}
-use Rattle.sbp_target.specs.declared.purpose.Purpose.{Purpose}
 use Rattle.sbp_target.specs.declared.purpose.Purpose.TheVariants as purposes
-use Rattle.sbp_target.specs.Calls.{alone, lets_expire}
-use Rattle.sbp_target.specs.Management.{decided_by, failed_by, manage, managed_in, managed_with, with_manager}
-use Rattle.sbp_target.specs.Nodes.{NodeState, Scene, scene}
-use Rattle.sbp_target.specs.Receiving.{answer_in, concluded, expired, expired_in, judged_scene, received, received_as, timed_out, with_layer}
-use Rattle.sbp_target.specs.Replies.{Whole, scene_of, whole}
 use Rattle.sbp_target.specs.Serving.{request_step}
 use Rattle.sbp_target.proofs.Histories.Calling.{Good}
 use Rattle.sbp_target.proofs.Histories.Found.{IsFound, found}
 use Rattle.sbp_target.proofs.Histories.Primitives.{closing_known, expiring_known, live_on}
 use Rattle.sbp_target.proofs.Histories.Seats.{Lives}
-use Rattle.sbp_world.specs.Agents.Management.Offices.{Office}
 use Rattle.sbp_world.proofs.Agents.Management.Calm as calm
 use Rattle.sbp_world.proofs.Agents.Management.Calm.{Calm, From}
 use Rattle.sbp_world.proofs.Agents.Management.Managing.{decision_stands}
 use Rattle.sbp_world.proofs.Agents.Enabling.{ask_logins}
 use Rattle.sbp_world.proofs.Agents.Management.Calls.{from_self}
-use Rattle.sbp_target.specs.Histories.Moves.{stay, still}
 use Rattle.sbp_target.proofs.Histories.Moved.{request_moves}
 use Rattle.sbp_target.proofs.Histories.Views.{acts, asked, node_left}
 

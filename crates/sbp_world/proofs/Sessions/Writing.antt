@@ -1,49 +1,25 @@
 -- What an operation of the management writes stands behind each call of a target.
-use Rattle.std.proofs.Common.{◌≡◌, ◌∙◌, refl, sym, ap, subst, ◌⊎◌, inl, inr, ℕ, ◌<◌, Bool, true, false, List, [], ◌∷◌, ◌++◌, length, map, Option, Some, None, Result, Ok, Err}
-use Rattle.async_packet.specs.Labels.{LabelParts}
-use Rattle.async_packet.specs.Packet.{Packet, header_in}
-use Rattle.label_table.specs.declared.reply.Stale.{Stale}
-use Rattle.label_table.specs.Layer.{Finding, expiring_step, judging_step, of_again, of_generation, of_grammar, of_label, of_request, of_response, seeing_step}
-use Rattle.login_table.specs.declared.login.Login.{Login}
-use Rattle.login_table.specs.Table.{Table}
-use Rattle.mgmt_agent.specs.declared.operation.Operation.{Operation}
+use Rattle.sbp_world.proofs.Words.Std.{◌≡◌, ◌∙◌, refl, sym, ap, subst, ◌⊎◌, inl, inr, ℕ, ◌<◌, Bool, true, false, List, [], ◌∷◌, ◌++◌, length, map, Option, Some, None, Result, Ok, Err}
+use Rattle.sbp_world.proofs.Words.Wire.{LabelParts, Packet, header_in, Stale, Finding, expiring_step, judging_step, of_again, of_generation, of_grammar, of_label, of_request, of_response, seeing_step, function_word, login_if, Note, Side, empty_outbox, Moment, asked, said}
+use Rattle.sbp_world.proofs.Words.Target.{Login, Table, Operation, start_step, start_with, Disk, Purpose, Call, after, alone, lets_expire, receives, sees, sets_key, ticks, NodeState, scene, answer_in, received, whole, is_barred, demand_of, Demand}
+use Rattle.sbp_world.proofs.Words.Initiator.{Nothing}
+use Rattle.sbp_world.proofs.Words.Laws.{target_at}
+use Rattle.sbp_world.proofs.Words.World.{ready_logins, after_run, beginning, after_all, WorldState, begun, CallsKeep, demanded, lapsed, requested, seen, Agrees, Office, by_note, by_side, by_sides, replied, started, started_by, ticked, with_key, AreSame, LoginsStand, GoesOnIn, IsDecidedBy, IsDecidedIn, IsWrittenBy, OperationsWrite, Writes, WritesOn, WrittenBetweenLaw, WrittenLaw, WrittenRunLaw, WritingLaw, is_written}
 use Rattle.mgmt_agent.specs.declared.operation.Phase.TheVariants as phases
-use Rattle.mgmt_agent.specs.Machine.{Machine, start_step, start_with}
-use Rattle.orb_layout.specs.declared.ask.Ask.TheVariants.{Nothing}
-use Rattle.rbc_disk.specs.Disk.{Disk}
-use Rattle.sbp_bus.specs.Words.{function_word, login_if}
-use Rattle.sbp_journal.specs.declared.note.Note.{Note}
+use Rattle.mgmt_agent.specs.Machine.{Machine}
 use Rattle.sbp_journal.specs.declared.note.Note.TheVariants as notes
-use Rattle.sbp_journal.specs.declared.side.Side.{Side}
 use Rattle.sbp_journal.specs.declared.side.Side.TheVariants as sides
-use Rattle.sbp_journal.specs.Outgoings.{empty_outbox}
-use Rattle.sbp_journal.specs.Run.{Moment, asked, said}
-use Rattle.sbp_laws.specs.Targets.{target_at}
-use Rattle.sbp_target.specs.declared.purpose.Purpose.{Purpose}
 use Rattle.sbp_target.specs.declared.purpose.Purpose.TheVariants as purposes
-use Rattle.sbp_target.specs.Calls.{Call, after, alone, lets_expire, receives, sees, sets_key, ticks}
-use Rattle.sbp_target.specs.Nodes.{NodeState, scene}
-use Rattle.sbp_target.specs.Receiving.{answer_in, received}
-use Rattle.sbp_target.specs.Replies.{whole}
-use Rattle.sbp_target.specs.Serving.{is_barred}
-use Rattle.target_base.specs.Addresses.{demand_of}
-use Rattle.target_base.specs.declared.address.Demand.{Demand}
 use Rattle.target_base.specs.declared.address.Demand.TheVariants as demands
-use Rattle.sbp_world.specs.Making.{ready_logins}
-use Rattle.sbp_world.specs.Runs.{after as after_run, beginning}
-use Rattle.sbp_world.specs.Settling.{after_all}
-use Rattle.sbp_world.specs.Worlds.{WorldState, begun}
 use Rattle.sbp_target.proofs.Histories.Calling.{Good}
 use Rattle.sbp_target.proofs.Histories.Settled.{all_good}
-use Rattle.sbp_world.specs.Agents.Management.Calls.{CallsKeep, delivered, demanded, lapsed, requested, seen}
-use Rattle.sbp_world.specs.Agents.Management.Offices.{Agrees, Office, by_note, by_side, by_sides, replied, started, started_by, ticked, with_key}
+use Rattle.sbp_world.specs.Agents.Management.Calls.{delivered}
 use Rattle.sbp_world.proofs.Agents.Management.Calls.{management_law}
 use Rattle.sbp_world.proofs.Agents.Management.Holding.{Holding}
 use Rattle.sbp_world.proofs.Agents.Management.Lines.{all_heard, opens}
 use Rattle.sbp_world.proofs.Agents.Management.Runs.{holds_after, no_repeats, not_reset}
 use Rattle.sbp_world.proofs.Agents.Management.Still.{hist}
-use Rattle.sbp_world.specs.Sessions.Standing.{AreSame, LoginsStand}
-use Rattle.sbp_world.specs.Sessions.Writing.{GoesOnIn, IsDecidedBy, IsDecidedIn, IsWritten, IsWrittenBy, OperationsWrite, Writes, WritesOn, WrittenBetweenLaw, WrittenLaw, WrittenRunLaw, WritingLaw, is_written}
+use Rattle.sbp_world.specs.Sessions.Writing.{IsWritten}
 use Rattle.sbp_world.proofs.Sessions.Decisions.{expired_over, reply_case, writes_kept}
 use Rattle.sbp_world.proofs.Sessions.Logins.{same}
 use Rattle.sbp_world.proofs.Sessions.Standing.{stands}

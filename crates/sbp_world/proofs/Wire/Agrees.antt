@@ -1,19 +1,12 @@
 -- Notes that change nothing of what the history says of IDs, packets, requests and the generation of the bus.
-use Rattle.std.specs.Prelude.{◌≡◌, ◌≤◌, ℕ, ◌+◌, Bool, true, false, if◌then◌else◌, Option, Some, None, refl}
-use Rattle.std.proofs.Common.{arith, sym, ◌∙◌, ap, subst}
-use Rattle.bus_transactions.specs.May.{is_plain, is_reset}
+use Rattle.sbp_world.proofs.Words.Std.{if◌then◌else◌, arith, sym, ◌∙◌, ap, subst, upd}
+use Rattle.sbp_world.proofs.Words.Wire.{is_plain, is_reset, at, Kind, is_same_kind, Part, request, response, part_of, is_to, Sending, Transaction, asked_by, between, begun_by, Terms, Held, free, waits, rests, noted, opened, judges, judges_if, closes, closes_if, gets, gets_as, ignores, ignores_that, times_out, begun_in, Owed, sends, puts, begins, pays, gives, asked_in, rcode_of, Cause, Event, Note, RequestsState}
+use Rattle.sbp_world.proofs.Words.World.{Knows, KnowsBy}
+use Rattle.std.specs.Prelude.{◌≡◌, ◌≤◌, ℕ, ◌+◌, Bool, true, false, Option, Some, None, refl}
 use Rattle.bus_transactions.proofs.MoveOthers.{plain_terms}
-use Rattle.sbp_base.specs.Update.{upd}
-use Rattle.sbp_journal.specs.Transactions.{at, Kind, is_same_kind, Part, request, response, no_packet, part_of, is_to, Sending, Transaction, asked_by, between, begun_by}
-use Rattle.sbp_journal.specs.Wire.{Terms, Held, free, waits, rests, noted, opened, judges, judges_if, closes, closes_if, gets, gets_as, ignores, ignores_that, times_out, begun_in, Owed, sends, puts, begins, pays, gives, asked_in}
-use Rattle.async_packet.specs.Fields.{rcode_of}
-use Rattle.sbp_journal.specs.declared.cause.Cause.{Cause}
+use Rattle.sbp_journal.specs.Transactions.{no_packet}
 use Rattle.sbp_journal.specs.declared.cause.Cause.TheVariants as causes
-use Rattle.sbp_journal.specs.declared.event.Event.{Event}
 use Rattle.sbp_journal.specs.declared.event.Event.TheVariants as events
-use Rattle.sbp_journal.specs.declared.note.Note.{Note}
-use Rattle.sbp_bus.specs.Requests.{RequestsState}
-use Rattle.sbp_world.specs.Wire.Knows.{Knows, KnowsBy}
 
 -- the terms before and after
 pub record Agrees (t u : Terms) : Type 0 where

@@ -1,14 +1,9 @@
 -- What leaves a node, and what it tells, change nothing of the nodes and of the generations that they know.
+use Rattle.sbp_world.proofs.Words.Std.{◌∙◌}
+use Rattle.sbp_world.proofs.Words.Wire.{LabelParts, Outgoing, Side, node_of}
+use Rattle.sbp_world.proofs.Words.World.{asked, posted, sent, sent_all, sent_to, told, told_all, WorldState}
 use Rattle.std.specs.Prelude.{◌≡◌, ℕ, List, [], ◌∷◌, ◌++◌, Option, Some, None, refl}
-use Rattle.std.proofs.Common.{◌∙◌}
-use Rattle.async_packet.specs.Labels.{LabelParts}
-use Rattle.sbp_journal.specs.declared.outbox.Outgoing.{Outgoing}
-use Rattle.sbp_journal.specs.declared.side.Side.{Side}
 use Rattle.sbp_journal.specs.declared.side.Side.TheVariants as sides
-use Rattle.sbp_bus.specs.Generations.{node_of}
-use Rattle.sbp_world.specs.Sending.{asked, posted, sent, sent_all, sent_to}
-use Rattle.sbp_world.specs.Telling.{told, told_all}
-use Rattle.sbp_world.specs.Worlds.{WorldState}
 
 -- two worlds that differ in packets, notes, places and loads
 pub record IsAlike (w v : WorldState) : Type 0 where

@@ -1,40 +1,16 @@
 -- What a node asks, and what it gives up, is a list of moves of the wire: the packets leave for the nodes that have the IDs.
-use Rattle.std.specs.Prelude.{◌≡◌, ◌≤◌, ◌<◌, ℕ, ◌+◌, ◌&&◌, nat_eq, Bool, true, false, cond, if◌then◌else◌, List, [], ◌∷◌, ◌++◌, length, slice_index_or, Option, Some, None, Result, Ok, Err, refl}
-use Rattle.std.proofs.Common.{arith, sym, ◌∙◌, ap, subst}
-use Rattle.std.proofs.lemmas.Bool.{false≢true}
-use Rattle.sbp_base.specs.Update.{upd}
-use Rattle.async_packet.specs.Canon.{IsValid}
-use Rattle.async_packet.specs.Labels.{LabelParts}
-use Rattle.label_table.specs.declared.judgement.Asked.{Asked}
-use Rattle.label_table.specs.declared.reply.NoLabel.{NoLabel}
-use Rattle.label_table.specs.Bodies.{Body, header_to, request_with}
+use Rattle.sbp_world.proofs.Words.Std.{if◌then◌else◌, slice_index_or, arith, sym, ◌∙◌, ap, subst, false≢true, upd}
+use Rattle.sbp_world.proofs.Words.Wire.{IsValid, LabelParts, Asked, NoLabel, Body, header_to, request_with, Layer, asked_at, asking_in, asking_step, disowning_in, disowning_step, peer_at, peer_place, unlabelled, PeerPlace, ask_place, state_for, Stored, send_step, bare, bare_after, same, AreSmall, ask, asking, disown, AreAsks, AreGivenUp, GivesUp, of_known, of_none, IsAsking, layer_after, request_to, requests_of, with_asked, Reached, Wire, Due, Node, as_sent, id_for, outgoing, transaction, Moment, said, Sending, begun_by, between, Terms, sends, terms, Outgoing, id_of, topology_at, RequestsState, add_step, place_of, request_of, ReplyKind, kind_of, Request}
+use Rattle.sbp_world.proofs.Words.World.{posted, sent, sent_all, sent_to, WorldState, AreEntered, IsEntered, Knows, IsWireAt, StandsAt}
+use Rattle.std.specs.Prelude.{◌≡◌, ◌≤◌, ◌<◌, ℕ, ◌+◌, ◌&&◌, nat_eq, Bool, true, false, cond, List, [], ◌∷◌, ◌++◌, length, Option, Some, None, Result, Ok, Err, refl}
 use Rattle.label_table.specs.History as calls
-use Rattle.label_table.specs.Layer.{Layer, asked_at, asking_in, asking_step, disowning_in, disowning_step, peer_at, peer_place, unlabelled}
-use Rattle.label_table.specs.Peers.{PeerPlace, ask_place, state_for}
-use Rattle.packet_store.specs.Stored.{Stored, send_step}
-use Rattle.bus_transactions.specs.Bare.{bare, bare_after, same}
-use Rattle.bus_transactions.specs.Fitting.{AreSmall}
-use Rattle.bus_transactions.specs.Moves.{ask, asking, disown}
-use Rattle.bus_transactions.specs.Steps.{AreAsks, AreGivenUp, GivesUp, of_known, of_none, IsAsking, layer_after, request_to, requests_of, with_asked}
-use Rattle.bus_transactions.specs.Reached.{Reached}
-use Rattle.bus_transactions.specs.Wire.{Wire, Due, Node, as_sent, id_for, outgoing, transaction}
 use Rattle.bus_transactions.proofs.Bares.{takes_steps}
 use Rattle.bus_transactions.proofs.Facts.{asked_begun, request_asked}
 use Rattle.bus_transactions.proofs.Follows.{last_is}
 use Rattle.bus_transactions.proofs.MoveAsk.{asked_bytes}
 use Rattle.bus_transactions.proofs.Steps.{AskedAs, Asks, asks}
-use Rattle.sbp_journal.specs.Run.{Moment, said}
-use Rattle.sbp_journal.specs.Transactions.{Sending, begun_by, between}
-use Rattle.sbp_journal.specs.Wire.{Terms, sends, terms}
 use Rattle.sbp_journal.specs.declared.note.Note.TheVariants as notes
-use Rattle.sbp_journal.specs.declared.outbox.Outgoing.{Outgoing}
-use Rattle.sbp_bus.specs.Generations.{id_of, topology_at}
-use Rattle.sbp_bus.specs.Requests.{RequestsState, add_step, place_of}
-use Rattle.sbp_bus.specs.Sending.{request_of}
-use Rattle.sbp_world.specs.Sending.{posted, sent, sent_all, sent_to, with_request}
-use Rattle.sbp_world.specs.Worlds.{WorldState}
-use Rattle.sbp_world.specs.Wire.Knows.{AreEntered, IsEntered, Knows}
-use Rattle.sbp_world.specs.Wire.Wires.{IsWireAt, StandsAt}
+use Rattle.sbp_world.specs.Sending.{with_request}
 use Rattle.sbp_world.proofs.Wire.Alike.{IsAlike, all_alike, sent_more}
 use Rattle.sbp_world.proofs.Wire.Agrees.{sends_agrees, sent_knows}
 use Rattle.sbp_world.proofs.Wire.Bus.{aged, holds, sent_ids}
@@ -46,9 +22,6 @@ use Rattle.sbp_world.proofs.Wire.Entered.{Waits, same_test, asked_waits, disowns
 use Rattle.bus_transactions.proofs.Places.{Places}
 use Rattle.bus_transactions.proofs.Reaches.{goes_on}
 use Rattle.label_table.specs.declared.place.LabelState.TheVariants as states
-use Rattle.label_table.specs.declared.reply.ReplyKind.{ReplyKind}
-use Rattle.label_table.specs.Requests.{kind_of}
-use Rattle.sbp_bus.specs.declared.requests.Request.{Request}
 
 -- ---- a function with another value at one node
 pub upd_own : {A : Type 0} (f : ℕ → A) (at : ℕ) (value : A) → upd f at value at ≡ value

@@ -1,33 +1,17 @@
 -- A transaction that is under way, by what the history says, is found by its serial, and times out.
-use Rattle.std.specs.Prelude.{◌≡◌, ◌≤◌, ◌<◌, ℕ, zero, suc, ◌-◌, ◌&&◌, nat_eq, nat_lt, is_ok, Bool, true, false, if◌then◌else◌, List, length, Option, Some, None, refl}
-use Rattle.std.proofs.Common.{arith, sym, ◌∙◌, ap, subst}
-use Rattle.async_packet.specs.Labels.{LabelParts}
-use Rattle.label_table.specs.declared.place.LabelState.{LabelState}
+use Rattle.sbp_world.proofs.Words.Std.{is_ok, if◌then◌else◌, arith, sym, ◌∙◌, ap, subst}
+use Rattle.sbp_world.proofs.Words.Wire.{LabelParts, LabelState, ReplyKind, expiring_step, state_for, awaits, kind_as, shape, shape_of, Node, id_for, transaction, empty_outbox, Moment, Kind, Sending, Transaction, begun_by, Held, Terms, free, rests, terms, waits, Request, id_of, topology_at, find, serial_at, request_of}
+use Rattle.sbp_world.proofs.Words.Target.{NodeState, expired}
+use Rattle.sbp_world.proofs.Words.Initiator.{expire_step}
+use Rattle.sbp_world.proofs.Words.World.{at_initiator, initiator_expires, target_expired, target_left, WorldState, initiator_at, Stands, layer_in}
+use Rattle.std.specs.Prelude.{◌≡◌, ◌≤◌, ◌<◌, ℕ, zero, suc, ◌-◌, ◌&&◌, nat_eq, nat_lt, Bool, true, false, List, length, Option, Some, None, refl}
 use Rattle.label_table.specs.declared.place.LabelState.TheVariants as states
-use Rattle.label_table.specs.declared.reply.ReplyKind.{ReplyKind}
-use Rattle.label_table.specs.Layer.{expiring_step}
-use Rattle.label_table.specs.Peers.{state_for}
-use Rattle.bus_transactions.specs.Rows.{awaits, kind_as, shape, shape_of}
-use Rattle.bus_transactions.specs.Wire.{Node, id_for, transaction}
 use Rattle.bus_transactions.proofs.Facts.{asked_is, begun_asked}
 use Rattle.bus_transactions.proofs.Reaches.{goes_on}
-use Rattle.sbp_initiator.specs.Receiving.{expire_step}
-use Rattle.sbp_journal.specs.Outgoings.{empty_outbox}
-use Rattle.sbp_journal.specs.Run.{Moment}
-use Rattle.sbp_journal.specs.Transactions.{Kind, Sending, Transaction, begun_by}
-use Rattle.sbp_journal.specs.Wire.{Held, Terms, free, rests, terms, waits}
 use Rattle.sbp_laws.specs.Packets as laws
-use Rattle.sbp_target.specs.Nodes.{NodeState}
 use Rattle.sbp_target.specs.Nodes as target
-use Rattle.sbp_target.specs.Receiving.{expired}
-use Rattle.sbp_bus.specs.declared.requests.Request.{Request}
-use Rattle.sbp_bus.specs.Generations.{id_of, topology_at}
-use Rattle.sbp_world.specs.Packets.{at_initiator, at_target, initiator_expires, target_expired, target_left}
+use Rattle.sbp_world.specs.Packets.{at_target}
 use Rattle.sbp_world.specs.Packets as packets
-use Rattle.sbp_bus.specs.Requests.{find, serial_at}
-use Rattle.sbp_bus.specs.Sending.{request_of}
-use Rattle.sbp_world.specs.Worlds.{WorldState, initiator_at}
-use Rattle.sbp_world.specs.Wire.Wires.{Stands, layer_in}
 use Rattle.sbp_world.proofs.Wire.Bus.{holds}
 use Rattle.sbp_world.proofs.Wire.Entered.{number_small, waiting_expires}
 use Rattle.sbp_world.proofs.Wire.Found.{id_known}

@@ -1,38 +1,13 @@
 -- What a world counts is what its history says: notes, packets, and what the target tells.
-use Rattle.std.specs.Prelude.{ℕ, ◌+◌, ◌<◌, ◌||◌, not, nat_lt, Bool, true, false, cond, List, [], ◌∷◌, length, slice_set, slice_index_or, Option, Some, None}
-use Rattle.std.proofs.Common.{◌≡◌, arith, refl, sym, ◌∙◌, ap, subst, nat_eq}
-use Rattle.std.proofs.lemmas.Bool.Decides.{nat_tests}
-use Rattle.std.proofs.lemmas.Grind.{get_or-set_at}
-use Rattle.std.proofs.lemmas.List.{get_or-set_other, length-set}
-use Rattle.sbp_base.specs.Update.{upd}
-use Rattle.async_packet.specs.Labels.{LabelParts}
-use Rattle.bus_memory.specs.Windows.{slot_of}
-use Rattle.orb_list.specs.Tickets.{TicketParts}
-use Rattle.packet_store.specs.Kept.{is_flying}
-use Rattle.packet_store.specs.Stored.{deliver_step}
-use Rattle.sbp_initiator.specs.declared.state.InitiatorState.{InitiatorState}
-use Rattle.sbp_initiator.specs.Effects.{Turn}
-use Rattle.sbp_initiator.specs.Initiators.{new_state}
-use Rattle.orb_list.specs.Lists.{last_at, last_in}
-use Rattle.sbp_journal.specs.Run.{Moment, said}
-use Rattle.sbp_journal.specs.Outgoings.{OutboxState}
-use Rattle.sbp_journal.specs.declared.cause.CutCause.{CutCause}
-use Rattle.sbp_journal.specs.declared.note.Note.{Note}
+use Rattle.sbp_world.proofs.Words.Std.{slice_set, slice_index_or, ◌≡◌, arith, refl, sym, ◌∙◌, ap, subst, nat_eq, nat_tests, get_or-set_at, get_or-set_other, upd}
+use Rattle.sbp_world.proofs.Words.Wire.{LabelParts, is_flying, deliver_step, Moment, said, OutboxState, CutCause, Note, Outgoing, Side, Holder, node_of, cut_step, of_initiator, cut_loads, list_in, function_word}
+use Rattle.sbp_world.proofs.Words.Target.{NodeState}
+use Rattle.sbp_world.proofs.Words.Initiator.{slot_of, TicketParts, InitiatorState, Turn, new_state, last_at, last_in}
+use Rattle.sbp_world.proofs.Words.World.{marked, handed_out, asked, posted, sent, sent_all, sent_to, holder, initiator_of, told, told_all, ticket_of, WorldState, initiator_at, with_note, with_target}
+use Rattle.std.specs.Prelude.{ℕ, ◌+◌, ◌<◌, ◌||◌, not, nat_lt, Bool, true, false, cond, List, [], ◌∷◌, length, Option, Some, None}
+use Rattle.std.proofs.lemmas.List.{length-set}
 use Rattle.sbp_journal.specs.declared.note.Note.TheVariants as notes
-use Rattle.sbp_journal.specs.declared.outbox.Outgoing.{Outgoing}
-use Rattle.sbp_journal.specs.declared.side.Side.{Side}
 use Rattle.sbp_journal.specs.declared.side.Side.TheVariants as sides
-use Rattle.sbp_target.specs.Nodes.{NodeState}
-use Rattle.sbp_bus.specs.declared.places.Holder.{Holder}
-use Rattle.sbp_world.specs.Delivering.{marked}
-use Rattle.sbp_bus.specs.Generations.{node_of}
-use Rattle.sbp_world.specs.Handing.{handed_out}
-use Rattle.sbp_bus.specs.Loads.{cut_step, of_initiator}
-use Rattle.sbp_world.specs.Sending.{asked, posted, sent, sent_all, sent_to}
-use Rattle.sbp_world.specs.Telling.{holder, initiator_of, told, told_all, ticket_of}
-use Rattle.sbp_bus.specs.Telling.{cut_loads, list_in}
-use Rattle.sbp_bus.specs.Words.{function_word}
-use Rattle.sbp_world.specs.Worlds.{WorldState, initiator_at, with_note, with_target}
 use Rattle.sbp_world.proofs.Wire.Alike.{told_alike}
 use Rattle.sbp_world.proofs.Wire.Counted.{AreHeld, CountedAt, counted_places, counted_same, says_cut}
 use Rattle.sbp_world.proofs.Wire.Effects.{AreOtherSides, IsOtherSide}

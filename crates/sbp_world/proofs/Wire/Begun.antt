@@ -1,11 +1,9 @@
 -- How many initiators a run has is what its first line says: no later note tells of another.
-use Rattle.std.proofs.Common.{◌≡◌, refl, ◌∙◌, ℕ, Bool, true, false, List, [], ◌∷◌, ◌++◌, map, Some}
-use Rattle.sbp_initiator.specs.Steps.{is_step}
-use Rattle.sbp_journal.specs.Run.{Moment, said}
-use Rattle.sbp_journal.specs.declared.note.Note.{Note}
+use Rattle.sbp_world.proofs.Words.Std.{◌≡◌, refl, ◌∙◌, ℕ, Bool, true, false, List, [], ◌∷◌, ◌++◌, map, Some}
+use Rattle.sbp_world.proofs.Words.Wire.{Moment, said, Note}
+use Rattle.sbp_world.proofs.Words.Initiator.{is_step}
+use Rattle.sbp_world.proofs.Words.Laws.{initiators, AreEffects, delivered_by, is_effect}
 use Rattle.sbp_journal.specs.declared.note.Note.TheVariants as notes
-use Rattle.sbp_laws.specs.Budget.{initiators}
-use Rattle.sbp_laws.specs.Deliveries.{AreEffects, delivered_by, is_effect}
 
 -- it begins no run
 abbrev pub is_begin : Note → Bool

@@ -1,33 +1,12 @@
 -- What each line of the bus brings, in the words of the laws: which packets it delivers, and when it is refused.
-use Rattle.std.specs.Prelude.{◌≡◌, ◌⊎◌, ◌≤◌, ◌<◌, ℕ, suc, ◌+◌, ◌-◌, ◌&&◌, nat_lt, is_none, is_some, Bool, true, false, if◌then◌else◌, List, [], ◌∷◌, ◌++◌, length, map, reverse, Option, Some, None, refl}
-use Rattle.std.proofs.Common.{arith, sym, ◌∙◌, ap, subst, inl, inr}
-use Rattle.packet_store.specs.declared.sent.Sent.{Sent}
-use Rattle.packet_store.specs.Kept.{found_sent, first, flying, is_flying}
-use Rattle.packet_store.specs.Stored.{Stored}
-use Rattle.rbc_disk.specs.Runs.{Told}
-use Rattle.sbp_journal.specs.Run.{Moment, said}
-use Rattle.sbp_journal.specs.Wire.{Terms, terms}
-use Rattle.sbp_journal.specs.declared.note.Note.{Note}
+use Rattle.sbp_world.proofs.Words.Std.{is_none, if◌then◌else◌, reverse, arith, sym, ◌∙◌, ap, subst, inl, inr}
+use Rattle.sbp_world.proofs.Words.Wire.{Sent, found_sent, first, flying, is_flying, Stored, Moment, said, Terms, terms, Note, Request, topology_at, destination_in, no_packet, end_note, find}
+use Rattle.sbp_world.proofs.Words.Target.{Told, with_key}
+use Rattle.sbp_world.proofs.Words.Laws.{flies, lowest_in_flight, AreDeliveries, EndsSettle, IsDelivery, IsTurnOf, NoneFlies, SettlesWithin, deliveries, once_told, Either, law_injected, may_inject, law_repeats, node_from, law_refused, is_under_way}
+use Rattle.sbp_world.proofs.Words.World.{delivered, keyed, reset_line, see_line, tick_line, delivered_if, expires, first_told, inject_line, injected, injected_to, is_in_flight, lose_line, lost, may_repeat, refused, timed_out, timeout_line, timeout_of, posted, AreUpTo, MayAll, MayNext, after_all, delivered_at, delivered_next, is_settled, lowest, settled, Scene, WorldState, initiator_at, with_note, with_target, without_notes, OwnFittingLaw, BytesTold, FittingLaw, Stands}
+use Rattle.std.specs.Prelude.{◌≡◌, ◌⊎◌, ◌≤◌, ◌<◌, ℕ, suc, ◌+◌, ◌-◌, ◌&&◌, nat_lt, is_some, Bool, true, false, List, [], ◌∷◌, ◌++◌, length, map, Option, Some, None, refl}
 use Rattle.sbp_journal.specs.declared.note.Note.TheVariants as notes
-use Rattle.sbp_laws.specs.Budget.{flies, lowest_in_flight}
-use Rattle.sbp_laws.specs.Deliveries.{AreDeliveries, EndsSettle, IsDelivery, IsTurnOf, NoneFlies, SettlesWithin, deliveries, once_told}
-use Rattle.sbp_laws.specs.LineLaw.{Either, injected as law_injected, may_inject, may_repeat as law_repeats, node_from, refused as law_refused}
-use Rattle.sbp_laws.specs.Packets.{is_under_way}
-use Rattle.sbp_bus.specs.declared.requests.Request.{Request}
-use Rattle.sbp_world.specs.Delivering.{delivered}
-use Rattle.sbp_bus.specs.Generations.{topology_at}
-use Rattle.sbp_world.specs.Lines.{keyed}
-use Rattle.sbp_world.specs.Nodes.{reset_line, see_line, tick_line}
-use Rattle.sbp_bus.specs.Packets.{destination_in, no_packet, end_note}
-use Rattle.sbp_world.specs.Packets.{delivered_if, expires, first_told, inject_line, injected, injected_to, is_in_flight, lose_line, lost, may_repeat, refused, timed_out, timeout_line, timeout_of}
-use Rattle.sbp_bus.specs.Requests.{find}
-use Rattle.sbp_world.specs.Sending.{posted}
-use Rattle.sbp_world.specs.Settling.{AreUpTo, MayAll, MayAt, MayNext, after_all, delivered_at, delivered_next, is_settled, lowest, settled}
-use Rattle.sbp_target.specs.Receiving.{with_key}
-use Rattle.sbp_world.specs.Worlds.{Scene, WorldState, initiator_at, with_note, with_target, without_notes}
-use Rattle.sbp_world.specs.FitInitiator.{FittingLaw as OwnFittingLaw}
-use Rattle.sbp_world.specs.FitTarget.{BytesTold, FittingLaw}
-use Rattle.sbp_world.specs.Wire.Wires.{Stands}
+use Rattle.sbp_world.specs.Settling.{MayAt}
 use Rattle.bus_transactions.proofs.Follows.{last_is}
 use Rattle.sbp_world.proofs.Wire.Bus.{holds}
 use Rattle.sbp_world.proofs.Wire.Hears.{ours}

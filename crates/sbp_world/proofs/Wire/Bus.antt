@@ -1,39 +1,16 @@
 -- The lines of the bus: a packet is lost, the bus is reset, bytes are injected.
-use Rattle.std.specs.Prelude.{◌≡◌, ◌≤◌, ◌<◌, ℕ, suc, ◌+◌, ◌%◌, ◌&&◌, not, nat_eq, nat_lt, Bool, true, false, cond, if◌then◌else◌, List, ◌∷◌, ◌++◌, length, map, position, slice_index_or, Option, Some, None, refl}
-use Rattle.std.specs.List.{All}
-use Rattle.std.proofs.Common.{arith, sym, ◌∙◌, ap, subst}
-use Rattle.std.proofs.lemmas.Grind.{get_or_default_zero}
-use Rattle.std.proofs.lemmas.List.Quantifiers.{position-Some}
-use Rattle.sbp_base.specs.Update.{upd}
-use Rattle.async_packet.specs.Fields.{header_of}
-use Rattle.packet_store.specs.Kept.{is_flying}
-use Rattle.packet_store.specs.Stored.{Stored, lose_step, send_step}
-use Rattle.bus_transactions.specs.May.{is_plain}
-use Rattle.bus_transactions.specs.Moves.{lose, reset, inject}
-use Rattle.bus_transactions.specs.Reached.{Reached}
-use Rattle.bus_transactions.specs.Wire.{Wire, as_sent, id_for, outgoing}
+use Rattle.sbp_world.proofs.Words.Std.{if◌then◌else◌, position, slice_index_or, All, arith, sym, ◌∙◌, ap, subst, get_or_default_zero, position-Some, upd}
+use Rattle.sbp_world.proofs.Words.Wire.{header_of, is_flying, Stored, lose_step, send_step, is_plain, lose, reset, inject, Reached, Wire, as_sent, id_for, outgoing, RequestsState, Moment, asked, said, Transaction, Sending, begun_by, Terms, Owed, terms, ids_of, noted, begins, gives, pays, sends, asked_in, id_of, node_in, one_of_five, is_at, node_of, topology_at, Topology, destination_in, source_in, no_node, no_packet, other_node}
+use Rattle.sbp_world.proofs.Words.World.{reset_line, inject_line, injected, injected_to, lose_line, lost, refused, posted, WorldState, without_notes, HasIds, Knows, Stands}
+use Rattle.std.specs.Prelude.{◌≡◌, ◌≤◌, ◌<◌, ℕ, suc, ◌+◌, ◌%◌, ◌&&◌, not, nat_eq, nat_lt, Bool, true, false, cond, List, ◌∷◌, ◌++◌, length, map, Option, Some, None, refl}
 use Rattle.bus_transactions.proofs.All.{all_stand}
 use Rattle.bus_transactions.proofs.Facts.{injected_begun}
 use Rattle.bus_transactions.proofs.FactsReset.{ids_before}
 use Rattle.bus_transactions.proofs.Follows.{last_is}
 use Rattle.orb_layout.proofs.Spelled.{small_anywhere}
-use Rattle.sbp_bus.specs.Requests.{RequestsState}
 use Rattle.bus_transactions.proofs.Stands.{Stands as Holds}
-use Rattle.sbp_journal.specs.Run.{Moment, asked, said}
-use Rattle.sbp_journal.specs.Transactions.{Transaction, Sending, begun_by}
-use Rattle.sbp_journal.specs.Wire.{Terms, Owed, terms, ids_of, noted, begins, gives, pays, sends, asked_in}
 use Rattle.sbp_journal.specs.declared.event.Event.TheVariants as events
 use Rattle.sbp_journal.specs.declared.note.Note.TheVariants as notes
-use Rattle.sbp_bus.specs.Generations.{id_of, node_in, one_of_five, is_at, node_of, topology_at}
-use Rattle.sbp_bus.specs.declared.generations.Topology.{Topology}
-use Rattle.sbp_world.specs.Nodes.{reset_line}
-use Rattle.sbp_bus.specs.Packets.{destination_in, source_in, no_node, no_packet, other_node}
-use Rattle.sbp_world.specs.Packets.{inject_line, injected, injected_to, lose_line, lost, refused}
-use Rattle.sbp_world.specs.Sending.{posted}
-use Rattle.sbp_world.specs.Worlds.{WorldState, without_notes}
-use Rattle.sbp_world.specs.Wire.Lines.{HasIds}
-use Rattle.sbp_world.specs.Wire.Knows.{Knows}
-use Rattle.sbp_world.specs.Wire.Wires.{Stands}
 use Rattle.sbp_world.proofs.Wire.Agrees.{reset_knows, sends_agrees, sent_knows}
 use Rattle.sbp_world.proofs.Wire.Latest.{other_knows}
 use Rattle.sbp_world.proofs.Wire.Tells.{leads, tells}

@@ -1,15 +1,10 @@
 -- Which node a packet comes to.
-use Rattle.std.specs.Prelude.{◌≡◌, ◌≤◌, ◌<◌, ℕ, suc, ◌-◌, nat_eq, nat_lt, Bool, true, false, if◌then◌else◌, List, length, Option, Some}
-use Rattle.std.proofs.Common.{arith, ◌∙◌, ap}
-use Rattle.packet_store.specs.declared.sent.Sent.{Sent}
-use Rattle.packet_store.specs.Kept.{found_sent}
-use Rattle.rbc_disk.specs.Runs.{Told}
-use Rattle.sbp_journal.specs.Run.{Moment}
-use Rattle.sbp_journal.specs.Outgoings.{OutboxState}
-use Rattle.sbp_world.specs.declared.parts.delivering.Arrival.{Arrival}
-use Rattle.sbp_world.specs.Delivering.{at_initiator, at_none, at_target, delivered_by, initiator_received, initiators_received, received_at, received_by, received_step, target_received}
-use Rattle.sbp_world.specs.Worlds.{Scene}
-use Rattle.sbp_world.specs.Wire.Wires.{Stands}
+use Rattle.sbp_world.proofs.Words.Std.{if◌then◌else◌, arith, ◌∙◌, ap}
+use Rattle.sbp_world.proofs.Words.Wire.{Sent, found_sent, Moment, OutboxState}
+use Rattle.sbp_world.proofs.Words.Target.{Told}
+use Rattle.sbp_world.proofs.Words.World.{Arrival, at_none, at_target, delivered_by, initiator_received, initiators_received, received_at, received_by, received_step, target_received, Scene, Stands}
+use Rattle.std.specs.Prelude.{◌≡◌, ◌≤◌, ◌<◌, ℕ, suc, ◌-◌, nat_eq, nat_lt, Bool, true, false, List, length, Option, Some}
+use Rattle.sbp_world.specs.Delivering.{at_initiator}
 use Rattle.sbp_world.proofs.Common.{is_inside}
 
 pub received_is : (told : Option Told) (serial : ℕ) (s : Scene) (sent : Sent) → found_sent serial s.world.store.kept ≡ Some sent → received_step told serial s ≡ received_at told sent s

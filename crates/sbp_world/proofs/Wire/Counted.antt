@@ -1,26 +1,11 @@
 -- What a world counts is what the ORBs of its history count, initiator by initiator, and so all together.
-use Rattle.std.specs.Prelude.{ℕ, zero, suc, ◌+◌, ◌^◌, ◌<◌, ◌≤◌, ◌&&◌, not, Bool, true, false, cond, if◌then◌else◌, List, [], ◌∷◌, ◌++◌, length, slice_set, slice_index_or, Option, Some, None}
-use Rattle.std.proofs.Common.{◌≡◌, arith, refl, sym, ◌∙◌, ap, subst, nat_eq}
-use Rattle.std.proofs.lemmas.Bool.Decides.{nat_tests}
-use Rattle.std.proofs.lemmas.Grind.{get_or-set_at}
-use Rattle.std.proofs.lemmas.List.{get_or-set_other, length-set}
-use Rattle.sbp_base.specs.Update.{upd, upd2}
-use Rattle.orb_layout.specs.declared.status.StatusKind.{StatusKind}
-use Rattle.sbp_journal.specs.Run.{Moment, said}
-use Rattle.sbp_journal.specs.Wire.{terms}
-use Rattle.sbp_journal.specs.declared.cause.CutCause.{CutCause}
-use Rattle.sbp_journal.specs.declared.note.NoteBuffer.{NoteBuffer}
+use Rattle.sbp_world.proofs.Words.Std.{if◌then◌else◌, slice_set, slice_index_or, ◌≡◌, arith, refl, sym, ◌∙◌, ap, subst, nat_eq, nat_tests, get_or-set_at, get_or-set_other, upd, upd2}
+use Rattle.sbp_world.proofs.Words.Wire.{Moment, said, terms, CutCause, NoteBuffer, ListLoad, OrbLoad, Holder, append_step, capped, cut_step, drop_step, lists_weight, load_weight, new_load, of_initiator, orb_load, take_step, holder_at}
+use Rattle.sbp_world.proofs.Words.Initiator.{StatusKind}
+use Rattle.sbp_world.proofs.Words.Laws.{share_of, shares, TakenStatus, cmd_of, command_at, last_got, src_in, taken_at, is_cut, access_at, event_of}
+use Rattle.std.specs.Prelude.{ℕ, zero, suc, ◌+◌, ◌^◌, ◌<◌, ◌≤◌, ◌&&◌, not, Bool, true, false, cond, List, [], ◌∷◌, ◌++◌, length, Option, Some, None}
+use Rattle.std.proofs.lemmas.List.{length-set}
 use Rattle.sbp_journal.specs.declared.note.Note.TheVariants as notes
-use Rattle.sbp_laws.specs.Budget.{share_of, shares}
-use Rattle.sbp_laws.specs.Lists.{TakenStatus, cmd_of, command_at, last_got, src_in, taken_at}
-use Rattle.sbp_laws.specs.OrderLaw.{is_cut}
-use Rattle.sbp_laws.specs.Packets.{access_at}
-use Rattle.sbp_laws.specs.Turns.{event_of}
-use Rattle.sbp_bus.specs.declared.loads.ListLoad.{ListLoad}
-use Rattle.sbp_bus.specs.declared.loads.OrbLoad.{OrbLoad}
-use Rattle.sbp_bus.specs.declared.places.Holder.{Holder}
-use Rattle.sbp_bus.specs.Loads.{append_step, capped, cut_step, drop_step, lists_weight, load_weight, new_load, of_initiator, orb_load, take_step}
-use Rattle.sbp_bus.specs.Places.{holder_at}
 use Rattle.sbp_world.proofs.Wire.Loaded.{capped_is, cut_none, cut_sum, load_sum, loads_apart, loads_in, loads_more, one_list, sum_apart, sum_more, sum_of, taken_one, taken_sum, two_lists, weights_are}
 use Rattle.sbp_world.proofs.Wire.Paid.{IsNew, Paid, cut_paid, drops, same_paid, takes as takes_paid}
 use Rattle.sbp_world.proofs.Wire.Shares.{Share, appended, cuts, is_appended, is_of, is_one, kept, ledger_of, share, sums, takes, total, total_more, without}

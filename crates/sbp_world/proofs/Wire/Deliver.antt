@@ -1,44 +1,14 @@
 -- A packet is delivered, once or once more, to a node: it is judged, and a request is answered.
-use Rattle.std.specs.Prelude.{◌≡◌, ◌≤◌, ◌<◌, ℕ, ◌+◌, not, nat_eq, Bool, true, false, cond, if◌then◌else◌, List, ◌∷◌, length, slice_index_or, Option, Some, None, Result, Ok, Err, refl}
-use Rattle.std.proofs.Common.{sym, ◌∙◌, ap, subst}
-use Rattle.sbp_base.specs.Update.{upd}
-use Rattle.async_packet.specs.declared.fault.PacketFault.{PacketFault}
-use Rattle.async_packet.specs.Canon.{IsValid}
-use Rattle.async_packet.specs.Labels.{LabelParts}
-use Rattle.async_packet.specs.Packet.{Packet, header_in}
-use Rattle.async_packet.specs.Reading.{reading}
-use Rattle.label_table.specs.declared.reply.ReplyKind.{ReplyKind}
-use Rattle.label_table.specs.Bodies.{Gives, response_to}
-use Rattle.label_table.specs.Judging.{Row, by_generation, by_grammar, by_label, by_response, by_again, by_request, row_of}
-use Rattle.label_table.specs.Layer.{Layer, Finding, of_generation, of_grammar, of_label, of_response, of_again, of_request, answering_step, closed_at, closed_by, closing_in, closing_step, facts_of, judged_by, judging_step, peer_at, peer_place, responded}
-use Rattle.label_table.specs.Peers.{PeerPlace, close_place}
-use Rattle.label_table.specs.Requests.{reply_kind}
-use Rattle.packet_store.specs.declared.sent.Kept.{Kept}
-use Rattle.packet_store.specs.declared.sent.Sent.{Sent}
-use Rattle.packet_store.specs.Kept.{found_sent, is_flying}
-use Rattle.packet_store.specs.Stored.{Stored, deliver_step, send_step}
-use Rattle.bus_transactions.specs.Bare.{bare, bare_after, bare_finding, same}
-use Rattle.bus_transactions.specs.May.{may_ignore}
-use Rattle.bus_transactions.specs.Moves.{answer, answered, answering, arrived, deliver, judging}
-use Rattle.bus_transactions.specs.Steps.{answer_to}
-use Rattle.bus_transactions.specs.Wire.{Due, Node, Reply, Wire, as_sending, as_sent, due_for, first_note, is_reply, outgoing}
+use Rattle.sbp_world.proofs.Words.Std.{if◌then◌else◌, slice_index_or, sym, ◌∙◌, ap, subst, upd}
+use Rattle.sbp_world.proofs.Words.Wire.{PacketFault, IsValid, LabelParts, Packet, header_in, reading, ReplyKind, Gives, response_to, Row, by_generation, by_grammar, by_label, by_response, by_again, by_request, row_of, Layer, Finding, of_generation, of_grammar, of_label, of_response, of_again, of_request, answering_step, closed_at, closed_by, closing_in, closing_step, facts_of, judged_by, judging_step, peer_at, peer_place, responded, PeerPlace, close_place, reply_kind, Kept, Sent, found_sent, is_flying, Stored, deliver_step, send_step, bare, bare_after, bare_finding, same, may_ignore, answer, answered, answering, arrived, deliver, judging, answer_to, Due, Node, Reply, Wire, as_sending, as_sent, due_for, first_note, is_reply, outgoing, Moment, said, Sending, part_of, Terms, noted, terms, Cause, Note, topology_at}
+use Rattle.sbp_world.proofs.Words.World.{marked, posted, leaves, sent_to, WorldState, with_note, Knows, IsWireAt, StandsAt}
+use Rattle.std.specs.Prelude.{◌≡◌, ◌≤◌, ◌<◌, ℕ, ◌+◌, not, nat_eq, Bool, true, false, cond, List, ◌∷◌, length, Option, Some, None, Result, Ok, Err, refl}
 use Rattle.bus_transactions.proofs.Bares.{takes_steps}
 use Rattle.bus_transactions.proofs.Facts.{none_begun, response_asked}
 use Rattle.bus_transactions.proofs.Follows.{last_is}
 use Rattle.bus_transactions.proofs.MoveAnswer as answers
 use Rattle.bus_transactions.proofs.Reaches.{goes_on}
-use Rattle.sbp_journal.specs.Run.{Moment, said}
-use Rattle.sbp_journal.specs.Transactions.{Sending, part_of}
-use Rattle.sbp_journal.specs.Wire.{Terms, noted, terms}
-use Rattle.sbp_journal.specs.declared.cause.Cause.{Cause}
 use Rattle.sbp_journal.specs.declared.cause.Cause.TheVariants as causes
-use Rattle.sbp_journal.specs.declared.note.Note.{Note}
-use Rattle.sbp_world.specs.Delivering.{marked}
-use Rattle.sbp_bus.specs.Generations.{topology_at}
-use Rattle.sbp_world.specs.Sending.{posted, sent as leaves, sent_to}
-use Rattle.sbp_world.specs.Worlds.{WorldState, with_note}
-use Rattle.sbp_world.specs.Wire.Knows.{Knows}
-use Rattle.sbp_world.specs.Wire.Wires.{IsWireAt, StandsAt}
 use Rattle.sbp_world.proofs.Wire.Agrees.{Agrees, got_agrees, ignored_agrees, sent_knows, still_knows}
 use Rattle.sbp_world.proofs.Wire.Asks.{own_layer, sent_past, sight_by, still_fair}
 use Rattle.sbp_world.proofs.Wire.Bus.{holds, sent_ids}

@@ -1,9 +1,8 @@
 -- What a node tells is the effects of a turn: none of its own notes begins a turn, or is one that a line alone brings.
-use Rattle.std.proofs.Common.{◌≡◌, Bool, true, false, cond, List, [], ◌∷◌, ◌++◌}
-use Rattle.sbp_journal.specs.declared.side.Side.{Side}
+use Rattle.sbp_world.proofs.Words.Std.{◌≡◌, Bool, true, false, cond, List, [], ◌∷◌, ◌++◌}
+use Rattle.sbp_world.proofs.Words.Wire.{Side, OutboxState}
+use Rattle.sbp_world.proofs.Words.Laws.{is_effect}
 use Rattle.sbp_journal.specs.declared.side.Side.TheVariants as sides
-use Rattle.sbp_journal.specs.Outgoings.{OutboxState}
-use Rattle.sbp_laws.specs.Deliveries.{is_effect}
 
 abbrev pub IsEffectSide : Side → Type 0
 IsEffectSide (sides.Own note) = is_effect note ≡ true

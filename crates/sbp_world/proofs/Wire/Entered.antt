@@ -1,33 +1,17 @@
 -- Requests of transactions that wait stay entered, whatever a layer does: only a request that leaves makes a transaction wait.
-use Rattle.std.specs.Prelude.{◌≡◌, ◌≤◌, ◌<◌, ℕ, ◌==◌, ◌&&◌, nat_eq, nat_lt, is_ok, Bool, true, false, cond, if◌then◌else◌, List, Option, Some, None, Ok, refl}
-use Rattle.std.proofs.Common.{arith, sym, ◌∙◌, ap, subst}
-use Rattle.sbp_base.specs.Update.{upd}
-use Rattle.async_packet.specs.Labels.{LabelParts}
-use Rattle.async_packet.specs.Packet.{Packet}
-use Rattle.label_table.specs.declared.judgement.Asked.{Asked}
-use Rattle.label_table.specs.declared.place.LabelState.{LabelState}
+use Rattle.sbp_world.proofs.Words.Std.{is_ok, if◌then◌else◌, arith, sym, ◌∙◌, ap, subst, upd}
+use Rattle.sbp_world.proofs.Words.Wire.{LabelParts, Packet, Asked, LabelState, Place, ReplyKind, Body, Facts, Finding, of_generation, of_grammar, of_label, of_response, of_again, of_request, answering_step, asked_at, asking_in, asking_step, disowning_step, expired_at, expiring_in, expiring_step, judging_step, peer_at, seen_in_generation, seeing_step, unlabelled, owned_place, shown_in, begun_for, expired_for, no_peer, peer_of, state_for, kind_of, with_label, Table, begin_at, begin_step, expire_in, expire_step, has_serial, is_current, lowest_from, place_at, Node, RequestsState, request_of}
+use Rattle.sbp_world.proofs.Words.World.{AreEntered, IsEntered}
+use Rattle.std.specs.Prelude.{◌≡◌, ◌≤◌, ◌<◌, ℕ, ◌==◌, ◌&&◌, nat_eq, nat_lt, Bool, true, false, cond, List, Option, Some, None, Ok, refl}
 use Rattle.label_table.specs.declared.place.LabelState.TheVariants as states
-use Rattle.label_table.specs.declared.place.Place.{Place}
-use Rattle.label_table.specs.declared.reply.ReplyKind.{ReplyKind}
-use Rattle.label_table.specs.Bodies.{Body}
-use Rattle.label_table.specs.Judging.{Facts}
-use Rattle.label_table.specs.Layer.{Finding, of_generation, of_grammar, of_label, of_response, of_again, of_request, answering_step, asked_at, asking_in, asking_step, disowning_step, expired_at, expiring_in, expiring_step, judging_step, peer_at, seen_in_generation, seeing_step, unlabelled}
 use Rattle.label_table.specs.Layer as layers
 use Rattle.label_table.specs.Laws.{IsLowest}
-use Rattle.label_table.specs.Owned.{owned_place, shown_in}
-use Rattle.label_table.specs.Peers.{begun_for, expired_for, no_peer, peer_of, state_for}
-use Rattle.label_table.specs.Requests.{kind_of, with_label}
-use Rattle.label_table.specs.Table.{Table, begin_at, begin_step, expire_in, expire_step, has_serial, is_current, lowest_from, place_at}
 use Rattle.label_table.proofs.Laws.{lowest_law}
 use Rattle.label_table.proofs.Owned.{holds}
 use Rattle.label_table.proofs.Steps.{place_set, under_way_below}
-use Rattle.bus_transactions.specs.Wire.{Node}
 use Rattle.bus_transactions.proofs.JudgedStep.{JudgedAs, judged_step}
 use Rattle.bus_transactions.proofs.Places.{Places, cleared_looked, looked_set}
 use Rattle.bus_transactions.proofs.Steps.{ExpiredAs, Shows, disowns, expires}
-use Rattle.sbp_bus.specs.Requests.{RequestsState}
-use Rattle.sbp_bus.specs.Sending.{request_of}
-use Rattle.sbp_world.specs.Wire.Knows.{AreEntered, IsEntered}
 
 -- ---- the IDs may be said in another way
 pub entered_by : {requests : RequestsState} {nodes : ℕ} {layer : ℕ → Node} {ids other : ℕ → ℕ → ℕ} → ids ≡ other → AreEntered requests nodes layer ids → AreEntered requests nodes layer other

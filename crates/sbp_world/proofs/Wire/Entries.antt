@@ -1,49 +1,17 @@
 -- The lines of the bus, over every run.
-use Rattle.std.specs.Prelude.{◌≡◌, ◌≤◌, ◌<◌, ℕ, zero, suc, ◌+◌, ◌*◌, ◌^◌, min, nat_lt, Bool, true, false, if◌then◌else◌, List, [], ◌∷◌, ◌++◌, length, map, reverse, Option, Some, None, refl}
-use Rattle.std.proofs.Common.{arith, sym, ◌∙◌, ap, subst}
-use Rattle.std.proofs.lemmas.List.{reverse-reverse}
-use Rattle.std.specs.List.{AllByRecursion}
-use Rattle.packet_store.specs.Kept.{flying}
-use Rattle.packet_store.specs.Stored.{Stored}
-use Rattle.rbc_disk.specs.Disk.{Disk}
-use Rattle.rbc_disk.specs.Runs.{Told}
-use Rattle.sbp_initiator.specs.Acting.{act_step}
-use Rattle.sbp_initiator.specs.declared.state.InitiatorState.{InitiatorState}
-use Rattle.sbp_journal.specs.Run.{Moment, asked, said, history}
-use Rattle.sbp_journal.specs.Wire.{Terms, terms}
-use Rattle.sbp_journal.specs.Outgoings.{OutboxState, empty_outbox}
-use Rattle.sbp_journal.specs.declared.event.Action.{Action}
-use Rattle.sbp_journal.specs.declared.event.Event.{Event}
+use Rattle.sbp_world.proofs.Words.Std.{if◌then◌else◌, reverse, arith, sym, ◌∙◌, ap, subst, reverse-reverse, AllByRecursion}
+use Rattle.sbp_world.proofs.Words.Wire.{flying, Stored, Moment, asked, said, history, Terms, terms, OutboxState, empty_outbox, Action, Event, Note, Side, HasForm, lists_weight}
+use Rattle.sbp_world.proofs.Words.Target.{Disk, Told}
+use Rattle.sbp_world.proofs.Words.Initiator.{act_step, InitiatorState}
+use Rattle.sbp_world.proofs.Words.Laws.{count_flying, flies, initiators, most_deliveries, settle_deliveries, shares, injectors, OnceLaw, is_wild, HasFormAt, FormedOnTheBus, is_under_way, EachMoment, AreLowest, EndsSettle, IsDelivery, IsTurnOf, SettlesWithin, BringsLine, Either, LineLaw, law_injected, may_inject, law_repeats, law_refused}
+use Rattle.sbp_world.proofs.Words.World.{AreForms, history_of, moments_behind, MayHappen, MayTellIn, acted, acted_by, happens, happens_to, weight_in, AreEntries, Entry, Run, after, beginning, budget, told, told_all, Scene, WorldState, begun, initiator_at, with_initiator, without_notes, OwnFittingLaw, FittingLaw, journal_entries, journal_run, AreLines, BusLaw, IsLine, Stands}
+use Rattle.std.specs.Prelude.{◌≡◌, ◌≤◌, ◌<◌, ℕ, zero, suc, ◌+◌, ◌*◌, ◌^◌, min, nat_lt, Bool, true, false, List, [], ◌∷◌, ◌++◌, length, map, Option, Some, None, refl}
 use Rattle.sbp_journal.specs.declared.event.Event.TheVariants as events
-use Rattle.sbp_journal.specs.declared.note.Note.{Note}
 use Rattle.sbp_journal.specs.declared.note.Note.TheVariants as notes
-use Rattle.sbp_journal.specs.declared.side.Side.{Side}
 use Rattle.sbp_journal.specs.declared.side.Side.TheVariants as sides
-use Rattle.sbp_journal.specs.Form.{HasForm}
-use Rattle.sbp_laws.specs.Budget.{count_flying, flies, initiators, most_deliveries, settle_deliveries, shares}
-use Rattle.sbp_laws.specs.Lawful.{injectors}
-use Rattle.sbp_laws.specs.OnceLaw.{OnceLaw, is_wild}
-use Rattle.sbp_laws.specs.OnTheBus.{HasFormAt, FormedOnTheBus}
-use Rattle.sbp_laws.specs.Packets.{is_under_way}
-use Rattle.sbp_laws.specs.Turns.{EachMoment}
 use Rattle.sbp_world.proofs.LineForms.{form_law}
-use Rattle.sbp_world.specs.Forms.{AreForms}
-use Rattle.sbp_laws.specs.Deliveries.{AreLowest, EndsSettle, IsDelivery, IsTurnOf, SettlesWithin}
-use Rattle.sbp_laws.specs.LineLaw.{BringsLine, Either, LineLaw, injected as law_injected, may_inject, may_repeat as law_repeats, refused as law_refused}
-use Rattle.sbp_world.specs.Histories.{history_of, moments_behind}
-use Rattle.sbp_bus.specs.Loads.{lists_weight}
-use Rattle.sbp_world.specs.Lines.{MayHappen, MayTellIn, acted, acted_by, happens, happens_to, weight_in}
-use Rattle.sbp_world.specs.Runs.{AreEntries, Entry, Run, after, beginning}
-use Rattle.sbp_world.specs.Settling.{budget}
-use Rattle.sbp_world.specs.Telling.{told, told_all}
-use Rattle.sbp_world.specs.Worlds.{Scene, WorldState, begun, initiator_at, with_initiator, without_notes}
 use Rattle.sbp_world.proofs.FitInitiator.Law.{fitting_law as own_fitting_law}
-use Rattle.sbp_world.specs.FitInitiator.{FittingLaw as OwnFittingLaw}
 use Rattle.sbp_world.proofs.FitTarget.Law.{fitting_law}
-use Rattle.sbp_world.specs.FitTarget.{FittingLaw}
-use Rattle.sbp_world.specs.Wire.Journal.{journal_entries, journal_run}
-use Rattle.sbp_world.specs.Wire.Lines.{AreLines, BusLaw, IsLine}
-use Rattle.sbp_world.specs.Wire.Wires.{Stands}
 use Rattle.sbp_world.proofs.Wire.Begun.{NoneBegins, delivered_none, effects_none, none_append, same_initiators, step_none}
 use Rattle.sbp_world.proofs.Wire.Bus.{holds}
 use Rattle.sbp_world.proofs.Wire.Brings.{deliver_brings, inject_brings, key_brings, lose_brings, repeat_brings, reset_brings, see_brings, settle_brings, tick_brings, timeout_brings, up_to_brings}

@@ -1,28 +1,10 @@
 -- A transaction times out: the request that is found by the serial is the present one of its transaction.
-use Rattle.std.specs.Prelude.{◌≡◌, ◌≤◌, ℕ, nat_eq, is_ok, Bool, cond, List, ◌∷◌, length, Option, Some, None, Result, Ok, Err, refl}
-use Rattle.std.proofs.Common.{sym, ◌∙◌, ap, subst}
-use Rattle.sbp_base.specs.Update.{upd}
-use Rattle.async_packet.specs.Labels.{LabelParts}
-use Rattle.label_table.specs.declared.reply.Stale.{Stale}
-use Rattle.label_table.specs.Layer.{Layer, expired_at, expiring_in, expiring_step, peer_at, peer_place}
-use Rattle.label_table.specs.Peers.{PeerPlace, expire_place}
-use Rattle.bus_transactions.specs.Bare.{bare, bare_after, bare_purpose, bare_result}
-use Rattle.bus_transactions.specs.Moves.{expire, expiring}
-use Rattle.bus_transactions.specs.Fitting.{AreSmall}
-use Rattle.bus_transactions.specs.Steps.{ArePlainSides, IsAsking}
-use Rattle.bus_transactions.specs.Wire.{Node, id_for, transaction}
+use Rattle.sbp_world.proofs.Words.Std.{is_ok, sym, ◌∙◌, ap, subst, upd}
+use Rattle.sbp_world.proofs.Words.Wire.{LabelParts, Stale, Layer, expired_at, expiring_in, expiring_step, peer_at, peer_place, PeerPlace, expire_place, bare, bare_after, bare_purpose, bare_result, expire, expiring, AreSmall, ArePlainSides, IsAsking, Node, id_for, transaction, Moment, said, OutboxState, Terms, terms, Request, topology_at, find}
+use Rattle.sbp_world.proofs.Words.World.{handed_out, WorldState, with_note, IsLatest, IsWireAt, StandsAt}
+use Rattle.std.specs.Prelude.{◌≡◌, ◌≤◌, ℕ, nat_eq, Bool, cond, List, ◌∷◌, length, Option, Some, None, Result, Ok, Err, refl}
 use Rattle.bus_transactions.proofs.Bares.{takes_steps}
-use Rattle.sbp_journal.specs.Run.{Moment, said}
-use Rattle.sbp_journal.specs.Outgoings.{OutboxState}
-use Rattle.sbp_journal.specs.Wire.{Terms, terms}
 use Rattle.sbp_journal.specs.declared.note.Note.TheVariants as notes
-use Rattle.sbp_bus.specs.declared.requests.Request.{Request}
-use Rattle.sbp_bus.specs.Generations.{topology_at}
-use Rattle.sbp_world.specs.Handing.{handed_out}
-use Rattle.sbp_bus.specs.Requests.{find}
-use Rattle.sbp_world.specs.Worlds.{WorldState, with_note}
-use Rattle.sbp_world.specs.Wire.Knows.{IsLatest}
-use Rattle.sbp_world.specs.Wire.Wires.{IsWireAt, StandsAt}
 use Rattle.sbp_world.proofs.Wire.Agrees.{still_knows, timed_agrees}
 use Rattle.sbp_world.proofs.Wire.Asks.{own_layer, relayered, sight_by, upd_own, upd_twice}
 use Rattle.sbp_world.proofs.Wire.Bus.{holds}

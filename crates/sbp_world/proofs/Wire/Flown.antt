@@ -1,16 +1,10 @@
 -- The history has as many packets in flight as the store.
-use Rattle.std.specs.Prelude.{ℕ, zero, suc, ◌+◌, ◌<◌, ◌≤◌, ◌==◌, ◌||◌, Bool, true, false, cond, if◌then◌else◌, List, [], ◌∷◌, length, Option}
-use Rattle.std.specs.List.{list_any}
-use Rattle.std.proofs.Common.{◌≡◌, arith, refl, sym, ◌∙◌, ap, subst, nat_eq}
-use Rattle.std.proofs.lemmas.Bool.Decides.{nat_tests}
-use Rattle.packet_store.specs.declared.sent.Kept.{Kept}
-use Rattle.packet_store.specs.Kept.{Rise, flying, is_flying}
-use Rattle.packet_store.specs.Stored.{Stored}
+use Rattle.sbp_world.proofs.Words.Std.{if◌then◌else◌, list_any, ◌≡◌, arith, refl, sym, ◌∙◌, ap, subst, nat_eq, nat_tests}
+use Rattle.sbp_world.proofs.Words.Wire.{Kept, Rise, flying, is_flying, Stored, Sending, Flight}
+use Rattle.sbp_world.proofs.Words.Laws.{count_flying, flies}
+use Rattle.std.specs.Prelude.{ℕ, zero, suc, ◌+◌, ◌<◌, ◌≤◌, ◌==◌, ◌||◌, Bool, true, false, cond, List, [], ◌∷◌, length, Option}
 use Rattle.packet_store.proofs.Calls.{risen}
 use Rattle.bus_transactions.proofs.Follows.{Follows, last_is}
-use Rattle.sbp_journal.specs.Transactions.{Sending}
-use Rattle.sbp_journal.specs.Wire.{Flight}
-use Rattle.sbp_laws.specs.Budget.{count_flying, flies}
 use Rattle.sbp_world.proofs.Wire.Kept.{flies_is}
 
 -- how many numbers from 1 to another pass a test

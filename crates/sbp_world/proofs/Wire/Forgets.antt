@@ -1,40 +1,15 @@
 -- What nodes do as they see a generation, and a target as a second passes: nothing leaves them, and their layer is that of the sight.
-use Rattle.std.specs.Prelude.{◌≡◌, ℕ, zero, suc, ◌+◌, ◌==◌, ◌&&◌, nat_lt, Bool, true, false, if◌then◌else◌, List, [], ◌∷◌, ◌++◌, length, map, replicate, slice_index_or, slice_set, Option, Some, None, refl}
-use Rattle.std.proofs.Common.{sym, ◌∙◌, ap, subst}
-use Rattle.std.proofs.lemmas.List.{set-get_or}
-use Rattle.async_packet.specs.Labels.{LabelParts}
-use Rattle.label_table.specs.declared.place.Place.{Place}
-use Rattle.label_table.specs.Layer.{Layer, disowning_in, disowning_step, peer_at, peer_place, seen_in_generation, seeing_step}
-use Rattle.label_table.specs.Peers.{PeerPlace, clear_place, disown_place, no_peer, with_purpose}
-use Rattle.label_table.specs.Table.{Table, has_serial, is_current, unused}
+use Rattle.sbp_world.proofs.Words.Std.{if◌then◌else◌, slice_index_or, slice_set, sym, ◌∙◌, ap, subst, set-get_or}
+use Rattle.sbp_world.proofs.Words.Wire.{LabelParts, Place, Layer, disowning_in, disowning_step, peer_at, peer_place, seen_in_generation, seeing_step, PeerPlace, clear_place, disown_place, no_peer, with_purpose, Table, has_serial, is_current, unused, CutCause, Note, Operation, Side, OutboxState, empty_outbox, is_plain, ArePlainSides, IsPlainSide}
+use Rattle.sbp_world.proofs.Words.Target.{Login, is_live, login_in, tick_step, Sent, Purpose, cut, disowned, told_cut, NodeState, Scene, scene, desk_at, login_at, cleared_node, expired_from, held_all, held_from, reset_by, seen, tell_held, ticked, with_side, cut_all, cut_at, cut_from, is_cut}
+use Rattle.sbp_world.proofs.Words.Initiator.{OwnPurpose, Running, InitiatorState, Turn, dropped_as, told, ListState, drop_lists, all_end, interrupted, reset_told, resets_told, see_step, seen_as, states_end}
+use Rattle.std.specs.Prelude.{◌≡◌, ℕ, zero, suc, ◌+◌, ◌==◌, ◌&&◌, nat_lt, Bool, true, false, List, [], ◌∷◌, ◌++◌, length, map, replicate, Option, Some, None, refl}
 use Rattle.label_table.proofs.Sources.{default_in}
-use Rattle.login_table.specs.declared.login.Login.{Login}
-use Rattle.login_table.specs.Table.{is_live, place_at as login_in, tick_step}
-use Rattle.sbp_journal.specs.declared.cause.CutCause.{CutCause}
 use Rattle.sbp_journal.specs.declared.cause.CutCause.TheVariants as cuts
-use Rattle.sbp_journal.specs.declared.note.Note.{Note}
 use Rattle.sbp_journal.specs.declared.note.Note.TheVariants as notes
-use Rattle.sbp_journal.specs.declared.operation.Operation.{Operation}
 use Rattle.sbp_journal.specs.declared.operation.Operation.TheVariants as operations
 use Rattle.sbp_journal.specs.declared.operation.OpWord.TheVariants as words
-use Rattle.sbp_journal.specs.declared.side.Side.{Side}
 use Rattle.sbp_journal.specs.declared.side.Side.TheVariants as sides
-use Rattle.sbp_journal.specs.Outgoings.{OutboxState, empty_outbox}
-use Rattle.sbp_initiator.specs.declared.purpose.Purpose.{Purpose as OwnPurpose}
-use Rattle.sbp_initiator.specs.declared.purpose.Running.{Running}
-use Rattle.sbp_initiator.specs.declared.state.InitiatorState.{InitiatorState}
-use Rattle.sbp_initiator.specs.Effects.{Turn, dropped_as, told}
-use Rattle.orb_list.specs.Lists.{ListState, drop_lists}
-use Rattle.sbp_initiator.specs.Seeing.{all_end, interrupted, reset_told, resets_told, see_step, seen_as, states_end}
-use Rattle.sbp_target.specs.declared.purpose.Sent.{Sent}
-use Rattle.sbp_target.specs.declared.purpose.Purpose.{Purpose}
-use Rattle.sbp_target.specs.Agents.{cut, disowned, told_cut}
-use Rattle.sbp_target.specs.Nodes.{NodeState, Scene, scene, desk_at, login_at}
-use Rattle.sbp_target.specs.Receiving.{cleared_node, expired_from, held_all, held_from, reset_by, seen, tell_held, ticked}
-use Rattle.sbp_target.specs.Sending.{with_side}
-use Rattle.sbp_target.specs.Units.{cut_all, cut_at, cut_from, is_cut}
-use Rattle.bus_transactions.specs.May.{is_plain}
-use Rattle.bus_transactions.specs.Steps.{ArePlainSides, IsPlainSide}
 
 -- ---- an outbox that holds no packet, and tells nothing that the wire reads
 pub record IsSilent (outbox : OutboxState) : Type 0 where

@@ -1,16 +1,10 @@
 -- The node that has an ID, as another node knows it.
-use Rattle.std.specs.Prelude.{◌≡◌, ◌≤◌, ◌<◌, ℕ, suc, is_some, nat_lt, Bool, true, false, if◌then◌else◌, List, length, position, slice_index_or, Option, Some, None, refl}
-use Rattle.std.proofs.Common.{arith, sym, ◌∙◌, ap}
-use Rattle.std.proofs.lemmas.List.Quantifiers.{position-Some}
+use Rattle.sbp_world.proofs.Words.Std.{if◌then◌else◌, position, slice_index_or, arith, sym, ◌∙◌, ap, position-Some}
+use Rattle.sbp_world.proofs.Words.Wire.{Due, Node, id_for, Moment, terms, Topology, id_of, is_at, node_of, one_of_five, topology_at}
+use Rattle.sbp_world.proofs.Words.World.{WorldState, StandsAt}
+use Rattle.std.specs.Prelude.{◌≡◌, ◌≤◌, ◌<◌, ℕ, suc, is_some, nat_lt, Bool, true, false, List, length, Option, Some, None, refl}
 use Rattle.label_table.proofs.Owned.{position_none}
-use Rattle.bus_transactions.specs.Wire.{Due, Node, id_for}
 use Rattle.bus_transactions.proofs.Reaches.{goes_on}
-use Rattle.sbp_journal.specs.Run.{Moment}
-use Rattle.sbp_journal.specs.Wire.{terms}
-use Rattle.sbp_bus.specs.declared.generations.Topology.{Topology}
-use Rattle.sbp_bus.specs.Generations.{id_of, is_at, node_of, one_of_five, topology_at}
-use Rattle.sbp_world.specs.Worlds.{WorldState}
-use Rattle.sbp_world.specs.Wire.Wires.{StandsAt}
 
 -- an ID of one of the nodes
 pub record IsIdOf (topology : Topology) (nodes id : ℕ) : Type 0 where

@@ -1,17 +1,9 @@
 -- What nodes hand out is told as the effects of a turn: of notes no other leaves a node, and each packet has its note.
-use Rattle.std.proofs.Common.{◌≡◌, refl, ◌∙◌, sym, ap, ℕ, ◌+◌, true, false, List, [], ◌∷◌, ◌++◌, Option, Some, None, append_assoc}
-use Rattle.async_packet.specs.Labels.{LabelParts}
-use Rattle.sbp_journal.specs.declared.note.Note.{Note}
-use Rattle.sbp_journal.specs.declared.outbox.Outgoing.{Outgoing}
-use Rattle.sbp_journal.specs.declared.side.Side.{Side}
+use Rattle.sbp_world.proofs.Words.Std.{◌≡◌, refl, ◌∙◌, sym, ap, ℕ, ◌+◌, true, false, List, [], ◌∷◌, ◌++◌, Option, Some, None, append_assoc}
+use Rattle.sbp_world.proofs.Words.Wire.{LabelParts, Note, Outgoing, Side, OutboxState, node_of}
+use Rattle.sbp_world.proofs.Words.Laws.{AreEffects, is_effect}
+use Rattle.sbp_world.proofs.Words.World.{handed_out, asked, posted, sent, sent_all, sent_to, told, told_all, WorldState}
 use Rattle.sbp_journal.specs.declared.side.Side.TheVariants as sides
-use Rattle.sbp_journal.specs.Outgoings.{OutboxState}
-use Rattle.sbp_laws.specs.Deliveries.{AreEffects, is_effect}
-use Rattle.sbp_bus.specs.Generations.{node_of}
-use Rattle.sbp_world.specs.Handing.{handed_out}
-use Rattle.sbp_world.specs.Sending.{asked, posted, sent, sent_all, sent_to}
-use Rattle.sbp_world.specs.Telling.{told, told_all}
-use Rattle.sbp_world.specs.Worlds.{WorldState}
 use Rattle.sbp_world.proofs.Wire.Effects.{AreEffectSides, IsEffectSide}
 
 -- ---- effects, in any order

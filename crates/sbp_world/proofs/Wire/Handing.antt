@@ -1,29 +1,10 @@
 -- What a node hands out in a call is a list of moves of the wire: what it tells, then its answer, then what it asks.
+use Rattle.sbp_world.proofs.Words.Std.{sym, ◌∙◌, subst, upd}
+use Rattle.sbp_world.proofs.Words.Wire.{Packet, Layer, Finding, of_generation, of_grammar, of_label, of_response, of_again, of_request, answering_step, Sent, bare, bare_finding, may_ignore, AreSmall, ArePlainSides, IsAnswering, IsAsking, IsDelivery, answer_to, judged_for, layer_after, Node, Reply, as_before, as_decided, as_sending, decided, due_for, first_note, Moment, OutboxState, Cause, Judged, Note, Outgoing, judged_note}
+use Rattle.sbp_world.proofs.Words.World.{handed_out, leaves, sent_all, told_all, WorldState, with_note, StandsAt}
 use Rattle.std.specs.Prelude.{◌≡◌, ◌≤◌, ◌<◌, ℕ, true, List, [], ◌∷◌, length, Option, Some, None, refl}
-use Rattle.std.proofs.Common.{sym, ◌∙◌, subst}
-use Rattle.sbp_base.specs.Update.{upd}
-use Rattle.async_packet.specs.Packet.{Packet}
-use Rattle.label_table.specs.Layer.{Layer, Finding, of_generation, of_grammar, of_label, of_response, of_again, of_request, answering_step}
-use Rattle.packet_store.specs.declared.sent.Sent.{Sent}
-use Rattle.bus_transactions.specs.Bare.{bare, bare_finding}
-use Rattle.bus_transactions.specs.May.{may_ignore}
-use Rattle.bus_transactions.specs.Fitting.{AreSmall}
-use Rattle.bus_transactions.specs.Steps.{ArePlainSides, IsAnswering, IsAsking, IsDelivery, answer_to, judged_for, layer_after}
-use Rattle.bus_transactions.specs.Wire.{Node, Reply, as_before, as_decided, as_sending, decided, due_for, first_note}
-use Rattle.sbp_journal.specs.Run.{Moment}
-use Rattle.sbp_journal.specs.Outgoings.{OutboxState}
-use Rattle.sbp_journal.specs.declared.cause.Cause.{Cause}
 use Rattle.sbp_journal.specs.declared.cause.Cause.TheVariants as causes
-use Rattle.sbp_journal.specs.declared.cause.Judged.{Judged}
 use Rattle.sbp_journal.specs.declared.cause.Judged.TheVariants as judgements
-use Rattle.sbp_journal.specs.declared.note.Note.{Note}
-use Rattle.sbp_journal.specs.declared.outbox.Outgoing.{Outgoing}
-use Rattle.sbp_bus.specs.Packets.{judged_note}
-use Rattle.sbp_world.specs.Handing.{handed_out}
-use Rattle.sbp_world.specs.Sending.{sent as leaves, sent_all}
-use Rattle.sbp_world.specs.Telling.{told_all}
-use Rattle.sbp_world.specs.Worlds.{WorldState, with_note}
-use Rattle.sbp_world.specs.Wire.Wires.{StandsAt}
 use Rattle.sbp_world.proofs.Wire.Alike.{IsAlike, sent_alike, told_alike}
 use Rattle.sbp_world.proofs.Wire.Asks.{asking_goes, given_up, known_still, relayered, upd_own, upd_twice}
 use Rattle.sbp_world.proofs.Wire.Deliver.{answers_one}

@@ -1,16 +1,8 @@
 -- The handle of a transaction has the generation of the layer that it is of.
+use Rattle.sbp_world.proofs.Words.Std.{arith, subst}
+use Rattle.sbp_world.proofs.Words.Wire.{LabelParts, Asked, Stale, Body, asked_at, asking_in, asking_step, expired_at, expiring_in, expiring_step, peer_at, unlabelled, owned_place, begun_for, expired_for, no_peer, peer_of, Table, begin_at, begin_step, expire_in, expire_step, has_serial, is_current, lowest_from, place_at, Node}
 use Rattle.std.specs.Prelude.{◌≡◌, ℕ, ◌&&◌, nat_eq, Bool, true, false, List, Option, Some, None, Result, Ok, Err, refl}
-use Rattle.std.proofs.Common.{arith, subst}
-use Rattle.async_packet.specs.Labels.{LabelParts}
-use Rattle.label_table.specs.declared.judgement.Asked.{Asked}
-use Rattle.label_table.specs.declared.reply.Stale.{Stale}
-use Rattle.label_table.specs.Bodies.{Body}
-use Rattle.label_table.specs.Layer.{asked_at, asking_in, asking_step, expired_at, expiring_in, expiring_step, peer_at, unlabelled}
-use Rattle.label_table.specs.Owned.{owned_place}
-use Rattle.label_table.specs.Peers.{begun_for, expired_for, no_peer, peer_of}
-use Rattle.label_table.specs.Table.{Table, begin_at, begin_step, expire_in, expire_step, has_serial, is_current, lowest_from, place_at}
 use Rattle.label_table.proofs.Owned.{holds}
-use Rattle.bus_transactions.specs.Wire.{Node}
 use Rattle.bus_transactions.proofs.Places.{Places}
 
 -- ---- of a request that is asked

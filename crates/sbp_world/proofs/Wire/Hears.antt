@@ -1,32 +1,13 @@
 -- A packet is delivered, and a transaction times out, in a world whose nodes know whom they ask.
-use Rattle.std.specs.Prelude.{◌≡◌, ◌≤◌, ◌<◌, ℕ, zero, suc, ◌-◌, nat_eq, nat_lt, Bool, true, false, if◌then◌else◌, List, length, Option, Some, None, Ok, refl}
-use Rattle.std.proofs.Common.{arith, sym, ◌∙◌, ap, subst}
-use Rattle.async_packet.specs.Packet.{Packet, header_in}
-use Rattle.async_packet.specs.Reading.{reading}
-use Rattle.label_table.specs.Layer.{expiring_step}
-use Rattle.packet_store.specs.declared.sent.Sent.{Sent}
-use Rattle.packet_store.specs.Kept.{found_sent, is_flying}
-use Rattle.packet_store.specs.Stored.{Stored}
-use Rattle.rbc_disk.specs.Runs.{Told}
-use Rattle.bus_transactions.specs.Reached.{IsOf}
-use Rattle.bus_transactions.specs.Wire.{Node, as_sending}
+use Rattle.sbp_world.proofs.Words.Std.{if◌then◌else◌, arith, sym, ◌∙◌, ap, subst}
+use Rattle.sbp_world.proofs.Words.Wire.{Packet, header_in, reading, expiring_step, Sent, found_sent, is_flying, Stored, IsOf, Node, as_sending, empty_outbox, Moment, terms, Request, topology_at, no_packet, find}
+use Rattle.sbp_world.proofs.Words.Target.{Told}
+use Rattle.sbp_world.proofs.Words.Initiator.{expire_step}
+use Rattle.sbp_world.proofs.Words.World.{delivered, at_initiator, expires, initiator_expires, refused, target_expired, timed_out, timeout_line, timeout_of, WorldState, Scene, initiator_at, with_initiator, with_target, OwnFittingLaw, BytesTold, Holds, FittingLaw, IsOurs, Stands}
+use Rattle.std.specs.Prelude.{◌≡◌, ◌≤◌, ◌<◌, ℕ, zero, suc, ◌-◌, nat_eq, nat_lt, Bool, true, false, List, length, Option, Some, None, Ok, refl}
 use Rattle.bus_transactions.proofs.Follows.{found_kept}
 use Rattle.bus_transactions.proofs.Reaches.{goes_on}
-use Rattle.sbp_journal.specs.Outgoings.{empty_outbox}
-use Rattle.sbp_journal.specs.Run.{Moment}
-use Rattle.sbp_journal.specs.Wire.{terms}
-use Rattle.sbp_initiator.specs.Receiving.{expire_step}
-use Rattle.sbp_bus.specs.declared.requests.Request.{Request}
-use Rattle.sbp_world.specs.Delivering.{delivered}
-use Rattle.sbp_bus.specs.Generations.{topology_at}
-use Rattle.sbp_bus.specs.Packets.{no_packet}
-use Rattle.sbp_world.specs.Packets.{at_initiator, at_target, expires, initiator_expires, refused, target_expired, timed_out, timeout_line, timeout_of}
-use Rattle.sbp_bus.specs.Requests.{find}
-use Rattle.sbp_world.specs.Worlds.{WorldState, Scene, initiator_at, with_initiator, with_target}
-use Rattle.sbp_world.specs.FitInitiator.{FittingLaw as OwnFittingLaw}
-use Rattle.sbp_world.specs.FitTarget.{BytesTold, Holds, FittingLaw}
-use Rattle.sbp_world.specs.Wire.Knows.{IsOurs}
-use Rattle.sbp_world.specs.Wire.Wires.{Stands}
+use Rattle.sbp_world.specs.Packets.{at_target}
 use Rattle.sbp_world.proofs.Wire.Bus.{holds, refuses}
 use Rattle.sbp_world.proofs.Wire.Found.{IsKnown, has_known, known_has}
 use Rattle.sbp_world.proofs.Wire.Holding.{KnownTo, Sound, TargetOf, own_has, target_has, to_target, known_small, lands_sound, target_small, with_own_holds, with_target_holds}

@@ -1,14 +1,8 @@
 -- The places of the target's logins: a list that is open in one is a list that its initiator began.
-use Rattle.std.specs.Prelude.{ℕ, zero, suc, ◌+◌, ◌<◌, ◌%◌, ◌==◌, nat_lt, Bool, true, false, cond, List, [], ◌∷◌, length, position, slice_set, slice_index_or, Option, Some, None}
-use Rattle.std.proofs.Common.{◌≡◌, arith, refl, sym, subst, nat_eq}
-use Rattle.std.proofs.lemmas.Bool.Decides.{nat_tests}
-use Rattle.std.proofs.lemmas.Grind.{get_or-set_at}
-use Rattle.std.proofs.lemmas.List.{get_or-set_other, set_past}
-use Rattle.sbp_journal.specs.declared.operation.FunctionWord.{FunctionWord}
+use Rattle.sbp_world.proofs.Words.Std.{position, slice_set, slice_index_or, ◌≡◌, arith, refl, sym, subst, nat_eq, nat_tests, get_or-set_at, get_or-set_other, set_past}
+use Rattle.sbp_world.proofs.Words.Wire.{FunctionWord, Holder, back_at, back_step, enter_step, has_login, holder_at, holder_of, is_free, left_step, new_places, first_holder, opened_by, opened_step, or_nobody, place_in, put_at, taken_by, decided_places, managed_places}
+use Rattle.std.specs.Prelude.{ℕ, zero, suc, ◌+◌, ◌<◌, ◌%◌, ◌==◌, nat_lt, Bool, true, false, cond, List, [], ◌∷◌, length, Option, Some, None}
 use Rattle.sbp_journal.specs.declared.operation.FunctionWord.TheVariants as functions
-use Rattle.sbp_bus.specs.declared.places.Holder.{Holder}
-use Rattle.sbp_bus.specs.Places.{back_at, back_step, enter_step, has_login, holder_at, holder_of, is_free, left_step, new_places, first_holder, opened_by, opened_step, or_nobody, place_in, put_at, taken_by}
-use Rattle.sbp_bus.specs.Telling.{decided_places, managed_places}
 use Rattle.sbp_world.proofs.Wire.Counted.{AreHeld}
 
 module _ (n : ℕ) (begun : ℕ → ℕ) where

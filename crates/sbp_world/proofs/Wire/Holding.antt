@@ -1,18 +1,11 @@
 -- What holds of the nodes of a world beside its wire: each knows the nodes that it asks, by their IDs in its generation.
-use Rattle.std.specs.Prelude.{◌≡◌, ◌≤◌, ◌<◌, ℕ, suc, ◌+◌, ◌%◌, ◌^◌, nat_eq, Bool, true, false, List, length, slice_index_or, slice_set, refl}
-use Rattle.std.proofs.Common.{arith, sym, subst}
-use Rattle.std.proofs.lemmas.Grind.{get_or-set_at}
-use Rattle.std.proofs.lemmas.List.{get_or-set_other, length-set}
-use Rattle.sbp_journal.specs.Run.{Moment}
-use Rattle.sbp_initiator.specs.declared.state.InitiatorState.{InitiatorState}
-use Rattle.sbp_initiator.specs.Initiators.{new_state}
-use Rattle.sbp_target.specs.Nodes.{NodeState}
-use Rattle.sbp_bus.specs.declared.generations.Topology.{Topology}
-use Rattle.sbp_bus.specs.Generations.{GenerationsState, id_of, no_topology}
-use Rattle.sbp_world.specs.Worlds.{WorldState, with_initiator, with_target}
-use Rattle.sbp_world.specs.FitInitiator.{Holds as OwnHolds}
-use Rattle.sbp_world.specs.FitTarget.{Holds}
-use Rattle.sbp_world.specs.Wire.Wires.{Stands}
+use Rattle.sbp_world.proofs.Words.Std.{slice_index_or, slice_set, arith, sym, subst, get_or-set_at, get_or-set_other}
+use Rattle.sbp_world.proofs.Words.Wire.{Moment, Topology, GenerationsState, id_of, no_topology}
+use Rattle.sbp_world.proofs.Words.Target.{NodeState}
+use Rattle.sbp_world.proofs.Words.Initiator.{InitiatorState, new_state}
+use Rattle.sbp_world.proofs.Words.World.{WorldState, with_initiator, with_target, OwnHolds, Holds, Stands}
+use Rattle.std.specs.Prelude.{◌≡◌, ◌≤◌, ◌<◌, ℕ, suc, ◌+◌, ◌%◌, ◌^◌, nat_eq, Bool, true, false, List, length, refl}
+use Rattle.std.proofs.lemmas.List.{length-set}
 use Rattle.sbp_world.proofs.Wire.Alike.{IsAlike}
 use Rattle.sbp_world.proofs.Wire.Found.{has_id, has_in}
 use Rattle.sbp_world.proofs.Wire.Nodes.{Lands}

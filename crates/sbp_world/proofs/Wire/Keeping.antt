@@ -1,8 +1,9 @@
 -- Each line of a world keeps the laws of the runs that it stands for.
+use Rattle.sbp_world.proofs.Words.Std.{◌∙◌, ap, subst, sym}
+use Rattle.sbp_world.proofs.Words.Wire.{Event}
+use Rattle.sbp_world.proofs.Words.Target.{Disk}
+use Rattle.sbp_world.proofs.Words.World.{history_of, IsRun, Happens, new_world, AreEntries, Run, StandsFor, beginning, HasSettled, Settles, BeginsLawfully, HasLaws, IsLikeAScripts, KeepsLaws, SettlesLawfully, StandsLawfully, AreOpenLists, AreStates, Scene, WorldState, scene, without_notes}
 use Rattle.std.specs.Prelude.{◌≡◌, ℕ, Bool, List, []}
-use Rattle.std.proofs.Common.{◌∙◌, ap, subst, sym}
-use Rattle.rbc_disk.specs.Disk.{Disk}
-use Rattle.sbp_journal.specs.declared.event.Event.{Event}
 use Rattle.sbp_world.proofs.Lists.ListLaws.{list_laws}
 use Rattle.sbp_world.proofs.Lists.Executes.{due_runs_law}
 use Rattle.sbp_world.proofs.Lists.GrantRuns.{few_logins_law}
@@ -11,15 +12,6 @@ use Rattle.sbp_world.proofs.Wire.Entries.{bus_law}
 use Rattle.sbp_world.proofs.Wire.Typed.{lawful_where_typed}
 use Rattle.sbp_world.proofs.Wire.Runs.{all_runs}
 use Rattle.sbp_world.proofs.Wire.States.{are_open_lists, are_states}
-use Rattle.sbp_world.specs.Histories.{history_of}
-use Rattle.sbp_world.specs.Hosts.Runs.{IsRun}
-use Rattle.sbp_world.specs.Lines.{Happens}
-use Rattle.sbp_world.specs.Making.{new_world}
-use Rattle.sbp_world.specs.Runs.{AreEntries, Run, StandsFor, beginning}
-use Rattle.sbp_world.specs.Settling.{HasSettled, Settles}
-use Rattle.sbp_world.specs.Wire.Keeping.{BeginsLawfully, HasLaws, IsLikeAScripts, KeepsLaws, SettlesLawfully, StandsLawfully}
-use Rattle.sbp_world.specs.Wire.States.{AreOpenLists, AreStates}
-use Rattle.sbp_world.specs.Worlds.{Scene, WorldState, scene, without_notes}
 
 laws_of : (run : Run) → AreEntries (beginning run) run.entries → (first : ℕ) → IsLikeAScripts run → HasLaws first run
 laws_of run are first is =

@@ -1,25 +1,15 @@
 -- What the history says of the packets of a world: its store has in flight exactly those that are in flight, the lowest of them is the lowest, and
 -- those that may be repeated are exactly those that it has among the last 1,024 serials.
-use Rattle.std.specs.Prelude.{◌≡◌, ◌≤◌, ◌<◌, ℕ, zero, suc, ◌+◌, ◌-◌, ◌==◌, ◌&&◌, nat_eq, nat_lt, is_some, Bool, true, false, cond, List, [], ◌∷◌, Option, Some, None, IfSome, IfNone, refl}
-use Rattle.std.proofs.Common.{arith, sym, ◌∙◌, ap, subst}
-use Rattle.packet_store.specs.declared.sent.Sent.{Sent}
-use Rattle.packet_store.specs.declared.sent.Kept.{Kept}
-use Rattle.packet_store.specs.Calls.{Call, Flight as StoreFlight, Unsent, InFlight, Delivered, Lost, Withdrawn, MayAll, after, by_request, is_of, send, deliver, lose, sent_at, state_at, sends}
-use Rattle.packet_store.specs.Kept.{IsLowest, NoneFlies, first, flying, found, found_sent, is_flying, sent_of}
-use Rattle.packet_store.specs.Laws.{shown}
-use Rattle.packet_store.specs.Stored.{Stored}
+use Rattle.sbp_world.proofs.Words.Std.{IfNone, arith, sym, ◌∙◌, ap, subst}
+use Rattle.sbp_world.proofs.Words.Wire.{Sent, Kept, Call, StoreFlight, Unsent, InFlight, Delivered, Lost, Withdrawn, is_of, send, sent_at, state_at, IsLowest, NoneFlies, first, flying, found, found_sent, is_flying, sent_of, shown, Stored, in_air, flight_as, sent_as, as_sent, Sending, Flight, Terms, unsent, in_flight, delivered, lost, withdrawn}
+use Rattle.sbp_world.proofs.Words.Laws.{flies, lowest_flying, lowest_in_flight, is_known}
+use Rattle.std.specs.Prelude.{◌≡◌, ◌≤◌, ◌<◌, ℕ, zero, suc, ◌+◌, ◌-◌, ◌==◌, ◌&&◌, nat_eq, nat_lt, is_some, Bool, true, false, cond, List, [], ◌∷◌, Option, Some, None, IfSome, refl}
+use Rattle.packet_store.specs.Calls.{MayAll, after, by_request, deliver, lose, sends}
 use Rattle.packet_store.specs.Transactions.{begun_by}
 use Rattle.packet_store.proofs.Calls.{flight_is, keeps_law, risen}
 use Rattle.packet_store.proofs.Flights.{first_flies, none_flies}
-use Rattle.packet_store.specs.Kept.{in_air}
-use Rattle.bus_transactions.specs.Packets.{flight_as, sent_as}
-use Rattle.bus_transactions.specs.Wire.{as_sent}
 use Rattle.bus_transactions.proofs.Facts.{Facts}
 use Rattle.bus_transactions.proofs.Follows.{Follows, kept_is, last_is}
-use Rattle.sbp_journal.specs.Transactions.{Sending}
-use Rattle.sbp_journal.specs.Wire.{Flight, Terms, unsent, in_flight, delivered, lost, withdrawn}
-use Rattle.sbp_laws.specs.Budget.{flies, lowest_flying, lowest_in_flight}
-use Rattle.sbp_laws.specs.LineLaw.{is_known}
 
 -- ---- a packet in flight, or delivered, was sent
 abbrev is_there : StoreFlight → Bool

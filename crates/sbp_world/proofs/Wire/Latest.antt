@@ -1,20 +1,10 @@
 -- A request that leaves is found by its serial, and is the present one of its transaction; the one before it is found no more.
-use Rattle.std.specs.Prelude.{◌≡◌, ◌≤◌, ◌<◌, ℕ, ◌+◌, nat_eq, nat_lt, Bool, true, false, cond, length, position, slice_index_or, Option, Some, None, zero, suc, refl}
-use Rattle.std.specs.List.{position_or_len}
-use Rattle.std.proofs.Common.{arith, sym, ◌∙◌, ap, subst}
-use Rattle.std.proofs.lemmas.Grind.{get_or-set_at}
-use Rattle.std.proofs.lemmas.List.{get_or-set_other, length-set}
-use Rattle.std.proofs.lemmas.List.Quantifiers.{position-Some}
-use Rattle.std.proofs.lemmas.List.Sums.{position_or_len_is}
-use Rattle.sbp_base.specs.Update.{upd}
-use Rattle.async_packet.specs.Labels.{LabelParts}
-use Rattle.bus_transactions.specs.Wire.{transaction}
+use Rattle.sbp_world.proofs.Words.Std.{position, slice_index_or, position_or_len, arith, sym, ◌∙◌, ap, subst, get_or-set_at, get_or-set_other, position-Some, position_or_len_is, upd}
+use Rattle.sbp_world.proofs.Words.Wire.{LabelParts, transaction, Sending, Transaction, at, is_same, Request, RequestsState, add_step, find, place_of, request_at, serial_at, request_of}
+use Rattle.sbp_world.proofs.Words.World.{IsEntered, IsLatest, IsOurs, KnowsBy}
+use Rattle.std.specs.Prelude.{◌≡◌, ◌≤◌, ◌<◌, ℕ, ◌+◌, nat_eq, nat_lt, Bool, true, false, cond, length, Option, Some, None, zero, suc, refl}
+use Rattle.std.proofs.lemmas.List.{length-set}
 use Rattle.bus_transactions.proofs.PacketParts.{same_is, same_refl}
-use Rattle.sbp_journal.specs.Transactions.{Sending, Transaction, at, is_same}
-use Rattle.sbp_bus.specs.declared.requests.Request.{Request}
-use Rattle.sbp_bus.specs.Requests.{RequestsState, add_step, find, place_of, request_at, serial_at}
-use Rattle.sbp_bus.specs.Sending.{request_of}
-use Rattle.sbp_world.specs.Wire.Knows.{IsEntered, IsLatest, IsOurs, KnowsBy}
 use Rattle.sbp_world.proofs.Common.{equal_numbers, is_inside}
 
 -- ---- numbers

@@ -1,28 +1,14 @@
 -- The lines in which nothing leaves a node.
-use Rattle.std.specs.Prelude.{◌≡◌, ◌≤◌, ◌<◌, ℕ, zero, suc, ◌-◌, nat_eq, nat_lt, Bool, true, false, if◌then◌else◌, List, [], length, slice_set, refl}
-use Rattle.std.proofs.Common.{arith, sym, ◌∙◌, ap, subst}
+use Rattle.sbp_world.proofs.Words.Std.{if◌then◌else◌, slice_set, arith, sym, ◌∙◌, ap, subst}
+use Rattle.sbp_world.proofs.Words.Wire.{seeing_step, bare, is_plain, Moment, OutboxState, empty_outbox, Outgoing, id_of}
+use Rattle.sbp_world.proofs.Words.Target.{NodeState, seen, ticked, with_key}
+use Rattle.sbp_world.proofs.Words.Initiator.{Turn, see_step}
+use Rattle.sbp_world.proofs.Words.World.{handed_out, keyed, no_unit, handed_all, initiator_learns, see_line, sees, target_learns, target_sees, target_ticks, tick_line, told_seen, with_seen, refused, sent_all, told_all, WorldState, initiator_at, with_initiator, with_note, with_target, Stands, layer_in}
+use Rattle.std.specs.Prelude.{◌≡◌, ◌≤◌, ◌<◌, ℕ, zero, suc, ◌-◌, nat_eq, nat_lt, Bool, true, false, List, [], length, refl}
 use Rattle.std.proofs.lemmas.List.{length-set}
-use Rattle.label_table.specs.Layer.{seeing_step}
-use Rattle.bus_transactions.specs.Bare.{bare}
-use Rattle.bus_transactions.specs.May.{is_plain}
-use Rattle.sbp_journal.specs.Run.{Moment}
-use Rattle.sbp_journal.specs.Outgoings.{OutboxState, empty_outbox}
 use Rattle.sbp_journal.specs.declared.note.Note.TheVariants as notes
-use Rattle.sbp_journal.specs.declared.outbox.Outgoing.{Outgoing}
-use Rattle.sbp_initiator.specs.Effects.{Turn}
-use Rattle.sbp_initiator.specs.Seeing.{see_step}
-use Rattle.sbp_target.specs.Nodes.{NodeState}
 use Rattle.sbp_target.specs.Nodes as target
-use Rattle.sbp_target.specs.Receiving.{seen, ticked, with_key}
-use Rattle.sbp_bus.specs.Generations.{id_of}
-use Rattle.sbp_world.specs.Handing.{handed_out}
-use Rattle.sbp_world.specs.Lines.{keyed, no_unit}
-use Rattle.sbp_world.specs.Nodes.{at_initiator, handed_all, initiator_learns, see_line, sees, target_learns, target_sees, target_ticks, tick_line, told_seen, with_seen}
-use Rattle.sbp_world.specs.Packets.{refused}
-use Rattle.sbp_world.specs.Sending.{sent_all}
-use Rattle.sbp_world.specs.Telling.{told_all}
-use Rattle.sbp_world.specs.Worlds.{WorldState, initiator_at, with_initiator, with_note, with_target}
-use Rattle.sbp_world.specs.Wire.Wires.{Stands, layer_in}
+use Rattle.sbp_world.specs.Nodes.{at_initiator}
 use Rattle.sbp_world.proofs.Wire.Bus.{refuses}
 use Rattle.sbp_world.proofs.Wire.Forgets.{IsSilent, seen_stays, sees_rests, ticked_stays}
 use Rattle.sbp_world.proofs.Wire.Alike.{told_alike}

@@ -1,14 +1,8 @@
 -- What the ORBs of a ledger come to list by list, as the loads of an initiator have them.
-use Rattle.std.specs.Prelude.{ℕ, suc, ◌+◌, ◌^◌, ◌<◌, ◌≤◌, ◌==◌, ◌&&◌, not, nat_lt, Bool, true, false, cond, if◌then◌else◌, List, [], ◌∷◌, ◌++◌, Some}
+use Rattle.sbp_world.proofs.Words.Std.{if◌then◌else◌, nat_cmp, is_eq, match_ordering, Less, Equal, Greater, insert_entry, is_at, lookup, remove_entry, ◌≡◌, arith, refl, sym, ◌∙◌, ap, subst, nat_eq, nat_tests}
+use Rattle.sbp_world.proofs.Words.Wire.{OrbLoad, capped, orb_load, weights, without_orb}
+use Rattle.std.specs.Prelude.{ℕ, suc, ◌+◌, ◌^◌, ◌<◌, ◌≤◌, ◌==◌, ◌&&◌, not, nat_lt, Bool, true, false, cond, List, [], ◌∷◌, ◌++◌, Some}
 use Rattle.std.specs.Option.{unwrap_or}
-use Rattle.std.specs.Ordering.{nat_cmp, is_eq, match_ordering}
-use Rattle.std.specs.declared.cmp.Ordering.TheVariants.{Less, Equal, Greater}
-use Rattle.std.specs.BTreeMap.{insert_entry, is_at}
-use Rattle.std.specs.Map.{lookup, remove_entry}
-use Rattle.std.proofs.Common.{◌≡◌, arith, refl, sym, ◌∙◌, ap, subst, nat_eq}
-use Rattle.std.proofs.lemmas.Bool.Decides.{nat_tests}
-use Rattle.sbp_bus.specs.declared.loads.OrbLoad.{OrbLoad}
-use Rattle.sbp_bus.specs.Loads.{capped, orb_load, weights, without_orb}
 use Rattle.sbp_world.proofs.Wire.Shares.{Share, is_of, is_one, without}
 use Rattle.sbp_world.proofs.Common.{itself}
 

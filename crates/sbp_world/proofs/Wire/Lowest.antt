@@ -1,13 +1,9 @@
 -- Deliveries one after the other, as notes: what stands behind deliveries of the lowest packets, and one delivery more.
-use Rattle.std.proofs.Common.{◌≡◌, refl, sym, ◌∙◌, ap, subst, ℕ, suc, ◌+◌, true, List, [], ◌∷◌, ◌++◌, map, reverse, Some, append_assoc, arith}
-use Rattle.std.proofs.lemmas.List.{reverse-append, reverse-reverse}
-use Rattle.std.proofs.lemmas.Option.{same_Some}
-use Rattle.sbp_journal.specs.Run.{Moment, said}
-use Rattle.sbp_journal.specs.Wire.{terms}
-use Rattle.sbp_journal.specs.declared.note.Note.{Note}
+use Rattle.sbp_world.proofs.Words.Std.{◌≡◌, refl, sym, ◌∙◌, ap, subst, ℕ, suc, ◌+◌, true, List, [], ◌∷◌, ◌++◌, map, Some, append_assoc, arith, reverse-append, reverse-reverse, same_Some}
+use Rattle.sbp_world.proofs.Words.Wire.{Moment, said, terms, Note}
+use Rattle.sbp_world.proofs.Words.Laws.{lowest_in_flight, AreEffects, AreLowest, BeginsDelivery, IsDelivery, IsTurnOf, deliveries, delivered_by, is_effect, once_told}
+use Rattle.std.proofs.Common.{reverse}
 use Rattle.sbp_journal.specs.declared.note.Note.TheVariants as notes
-use Rattle.sbp_laws.specs.Budget.{lowest_in_flight}
-use Rattle.sbp_laws.specs.Deliveries.{AreEffects, AreLowest, BeginsDelivery, IsDelivery, IsTurnOf, deliveries, delivered_by, is_effect, once_told}
 use Rattle.sbp_world.proofs.Wire.Gains.{effects_append}
 use Rattle.sbp_world.proofs.Wire.Turned.{Delivered, Turned}
 

@@ -1,15 +1,9 @@
 -- The node that an injected packet names, as the law and as the world find it.
-use Rattle.std.specs.Prelude.{◌≡◌, ◌≤◌, ◌<◌, ℕ, zero, suc, ◌+◌, ◌==◌, ◌&&◌, ◌||◌, not, nat_eq, nat_lt, nat_le, Bool, true, false, cond, if◌then◌else◌, List, length, Option, Some, None, refl}
-use Rattle.std.proofs.Common.{arith, sym, ◌∙◌, ap}
-use Rattle.sbp_journal.specs.Run.{Moment}
-use Rattle.sbp_journal.specs.Wire.{Terms, terms}
-use Rattle.sbp_laws.specs.LineLaw.{may_inject, names_node, node_from}
-use Rattle.sbp_laws.specs.Packets.{id_for, id_of}
-use Rattle.sbp_bus.specs.Generations.{id_of as world_id, node_of, topology_at}
-use Rattle.sbp_bus.specs.Packets.{destination_in, other_node, source_in}
-use Rattle.sbp_world.specs.Packets.{injected_to}
-use Rattle.sbp_world.specs.Worlds.{WorldState}
-use Rattle.sbp_world.specs.Wire.Wires.{Stands}
+use Rattle.sbp_world.proofs.Words.Std.{if◌then◌else◌, arith, sym, ◌∙◌, ap}
+use Rattle.sbp_world.proofs.Words.Wire.{Moment, Terms, terms, world_id, node_of, topology_at, destination_in, other_node, source_in}
+use Rattle.sbp_world.proofs.Words.Laws.{may_inject, names_node, node_from, id_for, id_of}
+use Rattle.sbp_world.proofs.Words.World.{injected_to, WorldState, Stands}
+use Rattle.std.specs.Prelude.{◌≡◌, ◌≤◌, ◌<◌, ℕ, zero, suc, ◌+◌, ◌==◌, ◌&&◌, ◌||◌, not, nat_eq, nat_lt, nat_le, Bool, true, false, cond, List, length, Option, Some, None, refl}
 use Rattle.sbp_world.proofs.Wire.Bus.{holds, node_has}
 use Rattle.sbp_world.proofs.Wire.Found.{node_found}
 

@@ -1,27 +1,10 @@
 -- A node takes the place of the one before: the world stands with the layers as they were, until the packets of the call have left.
-use Rattle.std.specs.Prelude.{◌≡◌, ◌≤◌, ◌<◌, ℕ, zero, suc, ◌||◌, not, nat_eq, Bool, true, false, cond, if◌then◌else◌, List, length, slice_index_or, slice_set, Option, None, refl}
-use Rattle.std.proofs.Common.{arith, sym, ◌∙◌, ap, subst}
-use Rattle.std.proofs.lemmas.Grind.{get_or-set_at}
-use Rattle.std.proofs.lemmas.List.{get_or-set_other}
-use Rattle.sbp_base.specs.Update.{upd}
-use Rattle.label_table.specs.Layer.{Layer}
-use Rattle.packet_store.specs.Kept.{is_flying}
-use Rattle.packet_store.specs.Stored.{deliver_step}
-use Rattle.bus_transactions.specs.Bare.{bare}
-use Rattle.bus_transactions.specs.Wire.{Due, Node}
-use Rattle.sbp_journal.specs.Run.{Moment}
-use Rattle.sbp_journal.specs.Outgoings.{OutboxState}
-use Rattle.sbp_journal.specs.Wire.{terms}
-use Rattle.sbp_initiator.specs.declared.state.InitiatorState.{InitiatorState}
-use Rattle.sbp_initiator.specs.Initiators.{new_state}
-use Rattle.sbp_target.specs.Nodes.{NodeState}
-use Rattle.sbp_target.specs.declared.purpose.Purpose.{Purpose}
-use Rattle.sbp_world.specs.Delivering.{marked}
-use Rattle.sbp_world.specs.Handing.{handed_out}
-use Rattle.sbp_world.specs.Telling.{told_all}
-use Rattle.sbp_world.specs.Worlds.{WorldState}
-use Rattle.sbp_world.specs.Wire.Knows.{AreEntered, Knows}
-use Rattle.sbp_world.specs.Wire.Wires.{Stands, StandsAt, layer_in, layers_of}
+use Rattle.sbp_world.proofs.Words.Std.{if◌then◌else◌, slice_index_or, slice_set, arith, sym, ◌∙◌, ap, subst, get_or-set_at, get_or-set_other, upd}
+use Rattle.sbp_world.proofs.Words.Wire.{Layer, is_flying, deliver_step, bare, Due, Node, Moment, OutboxState, terms}
+use Rattle.sbp_world.proofs.Words.Target.{NodeState, Purpose}
+use Rattle.sbp_world.proofs.Words.Initiator.{InitiatorState, new_state}
+use Rattle.sbp_world.proofs.Words.World.{marked, handed_out, told_all, WorldState, AreEntered, Knows, Stands, StandsAt, layer_in, layers_of}
+use Rattle.std.specs.Prelude.{◌≡◌, ◌≤◌, ◌<◌, ℕ, zero, suc, ◌||◌, not, nat_eq, Bool, true, false, cond, List, length, Option, None, refl}
 use Rattle.sbp_world.proofs.Wire.Alike.{IsAlike, all_alike, alike_same, alike_then, told_alike}
 use Rattle.sbp_world.proofs.Wire.Asks.{relayered}
 use Rattle.sbp_world.proofs.Wire.See.{not_zero, zero_not}

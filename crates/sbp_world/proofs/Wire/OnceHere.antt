@@ -1,36 +1,16 @@
 -- The once law of the laws, over every list of moves: it follows from that of the wire.
-use Rattle.std.specs.Prelude.{◌≡◌, ℕ, ◌+◌, ◌==◌, ◌&&◌, not, nat_eq, Bool, true, false, cond, if◌then◌else◌, List, [], ◌∷◌, Option, Some, None, Result, Ok, Err, refl}
-use Rattle.std.proofs.Common.{arith, sym, ◌∙◌, ap, subst}
-use Rattle.sbp_base.specs.Update.{upd}
-use Rattle.async_packet.specs.declared.fault.PacketFault.{PacketFault}
-use Rattle.async_packet.specs.Fields.{extended_of, header_of, length_of, offset_of, rcode_of, tcode_of, value_of}
-use Rattle.async_packet.specs.Faults.{fault_of}
-use Rattle.async_packet.specs.Packet.{Packet, write_quadlet, write_block, write_response, read_quadlet, read_block, read_quadlet_response, read_block_response, lock, lock_response}
-use Rattle.async_packet.specs.Reading.{packet_in as packet_of, payload_in, reading, unless_fault}
-use Rattle.label_table.specs.declared.judgement.Asked.{Asked}
-use Rattle.label_table.specs.declared.reply.Stale.{Stale}
-use Rattle.label_table.specs.Layer.{Finding, of_generation, of_grammar, of_label, of_response, of_again, of_request, answering_step, asking_step, expiring_step, judging_step}
-use Rattle.bus_transactions.specs.May.{May, MayAll, is_plain}
-use Rattle.bus_transactions.specs.Moves.{Move, ask, answer, inject, deliver, lose, expire, disown, reset, see, start, tell, after, answering, asking, expiring, moved}
-use Rattle.bus_transactions.specs.Once.{IsOnce}
-use Rattle.bus_transactions.specs.Reached.{IsAwaited, Reached}
-use Rattle.bus_transactions.specs.Wire.{Due, Node, Wire, decided, first_note, id_for, transaction}
+use Rattle.sbp_world.proofs.Words.Std.{if◌then◌else◌, arith, sym, ◌∙◌, ap, subst, upd}
+use Rattle.sbp_world.proofs.Words.Wire.{PacketFault, extended_of, header_of, length_of, offset_of, rcode_of, tcode_of, value_of, fault_of, Packet, write_quadlet, write_block, write_response, read_quadlet, read_block, read_quadlet_response, read_block_response, lock, lock_response, packet_of, payload_in, reading, unless_fault, Asked, Stale, Finding, of_generation, of_grammar, of_label, of_response, of_again, of_request, answering_step, asking_step, expiring_step, judging_step, May, MayAll, is_plain, Move, ask, answer, inject, deliver, lose, expire, disown, reset, see, start, tell, after, answering, asking, expiring, moved, IsOnce, IsAwaited, Reached, Due, Node, Wire, decided, first_note, id_for, transaction, Moment, said, Kind, writing, reading_quadlet, reading_block, locking, is_same_kind, Part, request, response, part_by, part_in, part_of, is_to, Sending, Transaction, asked_by, begun_by, between, Held, Owed, Terms, arrives, begins, begun_in, closes, closes_if, free, gets, gets_as, gives, ignores, ignores_that, is_news, is_served, judges, judges_if, noted, opened, pays, puts, rests, sends, terms, times_out, waits, asked_in, Event, Cause, Note}
+use Rattle.sbp_world.proofs.Words.Initiator.{Done, Refused}
+use Rattle.sbp_world.proofs.Words.Laws.{ClosesOne, IsNew, OnceAt, OnceLaw, WasServed, is_between, is_done, is_fair, is_wild, is_write_in, access_in, answer_in, answer_of, answered_as, answered_at, answered_in, closed_by, packet_at, packet_in, spelled_by, EachMoment}
+use Rattle.std.specs.Prelude.{◌≡◌, ℕ, ◌+◌, ◌==◌, ◌&&◌, not, nat_eq, Bool, true, false, cond, List, [], ◌∷◌, Option, Some, None, Result, Ok, Err, refl}
 use Rattle.bus_transactions.proofs.MoveOthers.{plain_terms}
 use Rattle.bus_transactions.proofs.PacketLaws.{once_always, served_always}
 use Rattle.bus_transactions.proofs.Reaches.{goes_on}
-use Rattle.orb_layout.specs.Replies.{Done, Refused}
-use Rattle.sbp_journal.specs.Run.{Moment, said}
-use Rattle.sbp_journal.specs.Transactions.{Kind, writing, reading_quadlet, reading_block, locking, is_same_kind, Part, request, response, no_packet, part_by, part_in, part_of, is_to, Sending, Transaction, asked_by, begun_by, between}
-use Rattle.sbp_journal.specs.Wire.{Held, Owed, Terms, arrives, begins, begun_in, closes, closes_if, free, gets, gets_as, gives, ignores, ignores_that, is_news, is_served, judges, judges_if, noted, opened, pays, puts, rests, sends, terms, times_out, waits, asked_in}
-use Rattle.sbp_journal.specs.declared.event.Event.{Event}
+use Rattle.sbp_journal.specs.Transactions.{no_packet}
 use Rattle.sbp_journal.specs.declared.event.Event.TheVariants as events
-use Rattle.sbp_journal.specs.declared.cause.Cause.{Cause}
 use Rattle.sbp_journal.specs.declared.cause.Cause.TheVariants as causes
-use Rattle.sbp_journal.specs.declared.note.Note.{Note}
 use Rattle.sbp_journal.specs.declared.note.Note.TheVariants as notes
-use Rattle.sbp_laws.specs.OnceLaw.{ClosesOne, IsNew, OnceAt, OnceLaw, WasServed, is_between, is_done, is_fair, is_wild, is_write_in}
-use Rattle.sbp_laws.specs.Packets.{access_in, answer_in, answer_of, answered_as, answered_at, answered_in, closed_by, packet_at, packet_in, spelled_by}
-use Rattle.sbp_laws.specs.Turns.{EachMoment}
 use Rattle.sbp_world.proofs.Wire.Agrees.{Agrees, got_agrees, ignored_agrees}
 
 -- ---- a write, and its response

@@ -1,28 +1,10 @@
 -- What an initiator tells in an action: the steps of its list.
-use Rattle.std.proofs.Common.{◌≡◌, refl, ℕ, true, List, [], ◌∷◌, ◌++◌, Option, Some, None}
-use Rattle.label_table.specs.declared.judgement.Asked.{Asked}
-use Rattle.label_table.specs.Layer.{Layer}
-use Rattle.orb_list.specs.declared.list.PresentList.{PresentList}
-use Rattle.orb_list.specs.Tickets.{TicketParts}
-use Rattle.orb_list.specs.Table.{find_in}
-use Rattle.sbp_initiator.specs.Steps.{is_step}
-use Rattle.sbp_journal.specs.declared.event.Action.{Action}
+use Rattle.sbp_world.proofs.Words.Std.{◌≡◌, refl, ℕ, true, List, [], ◌∷◌, ◌++◌, Option, Some, None}
+use Rattle.sbp_world.proofs.Words.Wire.{Asked, Layer, Action, Cmd, Note, Side, buffer_of, OutboxState}
+use Rattle.sbp_world.proofs.Words.Initiator.{PresentList, TicketParts, find_in, is_step, Demand, Purpose, InitiatorState, ListState, high_lists, low_lists, put_lists, refusal, Turn, told, act_step, append_step, asked_as, asked_for, demand_of, demanded_as, done_step, dummy_for, facts_with, judged_as, link_as, link_step, login_id, low_as, low_step, put_as, put_step, ring_for}
 use Rattle.sbp_journal.specs.declared.event.Action.TheVariants as actions
-use Rattle.sbp_journal.specs.declared.event.Cmd.{Cmd}
-use Rattle.sbp_journal.specs.declared.note.Note.{Note}
 use Rattle.sbp_journal.specs.declared.note.Note.TheVariants as notes
-use Rattle.sbp_journal.specs.declared.side.Side.{Side}
 use Rattle.sbp_journal.specs.declared.side.Side.TheVariants as sides
-use Rattle.sbp_journal.specs.Buffers.{buffer_of}
-use Rattle.sbp_journal.specs.Outgoings.{OutboxState}
-use Rattle.sbp_initiator.specs.declared.purpose.Demand.{Demand}
-use Rattle.sbp_initiator.specs.declared.purpose.Purpose.{Purpose}
-use Rattle.sbp_initiator.specs.declared.state.InitiatorState.{InitiatorState}
-use Rattle.orb_list.specs.Lists.{ListState, high_lists, low_lists}
-use Rattle.sbp_initiator.specs.Commands.{put_lists}
-use Rattle.sbp_initiator.specs.Refusals.{refusal}
-use Rattle.sbp_initiator.specs.Effects.{Turn, told}
-use Rattle.sbp_initiator.specs.Acting.{act_step, append_step, asked_as, asked_for, demand_of, demanded_as, done_step, dummy_for, facts_with, judged_as, link_as, link_step, login_id, low_as, low_step, put_as, put_step, ring_for}
 
 -- each is a note of a step of a list
 abbrev pub IsStepSide : Side → Type 0

@@ -1,28 +1,12 @@
 -- What an initiator tells in a call, and what that leaves of its lists, keep what the world counts.
+use Rattle.sbp_world.proofs.Words.Std.{◌≡◌, arith, refl, sym, ◌∙◌, ap, subst, nat_eq, upd}
+use Rattle.sbp_world.proofs.Words.Wire.{Moment, said, Cmd, Note, NoteBuffer, Side, ListLoad, OrbLoad, append_step, of_initiator, orb_load, weight_of, counted}
+use Rattle.sbp_world.proofs.Words.Initiator.{StatusKind, PresentList, TicketParts, SlotTable}
+use Rattle.sbp_world.proofs.Words.Laws.{share_of, cmd_of, taken_at, is_cut, event_of}
+use Rattle.sbp_world.proofs.Words.World.{told, told_all, WorldState}
 use Rattle.std.specs.Prelude.{ℕ, suc, ◌+◌, ◌^◌, ◌<◌, ◌≤◌, Bool, true, false, cond, List, [], ◌∷◌, ◌++◌, map, Option, Some, None}
-use Rattle.std.proofs.Common.{◌≡◌, arith, refl, sym, ◌∙◌, ap, subst, nat_eq}
-use Rattle.sbp_base.specs.Update.{upd}
-use Rattle.orb_layout.specs.declared.status.StatusKind.{StatusKind}
-use Rattle.orb_list.specs.declared.list.PresentList.{PresentList}
-use Rattle.orb_list.specs.Tickets.{TicketParts}
-use Rattle.orb_list.specs.Table.{SlotTable}
-use Rattle.sbp_journal.specs.Run.{Moment, said}
-use Rattle.sbp_journal.specs.declared.event.Cmd.{Cmd}
-use Rattle.sbp_journal.specs.declared.note.Note.{Note}
 use Rattle.sbp_journal.specs.declared.note.Note.TheVariants as notes
-use Rattle.sbp_journal.specs.declared.note.NoteBuffer.{NoteBuffer}
-use Rattle.sbp_journal.specs.declared.side.Side.{Side}
 use Rattle.sbp_journal.specs.declared.side.Side.TheVariants as sides
-use Rattle.sbp_laws.specs.Budget.{share_of}
-use Rattle.sbp_laws.specs.Lists.{cmd_of, taken_at}
-use Rattle.sbp_laws.specs.OrderLaw.{is_cut}
-use Rattle.sbp_laws.specs.Turns.{event_of}
-use Rattle.sbp_bus.specs.declared.loads.ListLoad.{ListLoad}
-use Rattle.sbp_bus.specs.declared.loads.OrbLoad.{OrbLoad}
-use Rattle.sbp_bus.specs.Loads.{append_step, of_initiator, orb_load, weight_of}
-use Rattle.sbp_world.specs.Telling.{told, told_all}
-use Rattle.sbp_bus.specs.Telling.{counted}
-use Rattle.sbp_world.specs.Worlds.{WorldState}
 use Rattle.sbp_world.proofs.Wire.Counted.{CountedAt, PaidIn, counted_more, counted_same, most_share, own_here, own_sum, own_there, own_words, row_at, says_append, says_drop, says_taken}
 use Rattle.sbp_world.proofs.Wire.Loaded.{loads_in, sum_of}
 use Rattle.sbp_world.proofs.Wire.Paid.{IsNew, Paid, append_first, append_next}

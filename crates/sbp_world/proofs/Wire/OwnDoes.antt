@@ -1,40 +1,16 @@
 -- An action of an initiator keeps what the world counts, and appends one ORB at most.
+use Rattle.sbp_world.proofs.Words.Std.{◌≡◌, refl, sym, ◌∙◌, ap, subst, arith}
+use Rattle.sbp_world.proofs.Words.Wire.{Asked, Layer, Moment, buffer_of, OutboxState, Action, Cmd, Operation, weight_of}
+use Rattle.sbp_world.proofs.Words.Initiator.{Memory, ManagementOrb, ListFault, PresentList, TicketParts, SlotTable, find_in, list_number, lists_begun, orb_number, Demand, Purpose, InitiatorState, dummy_lists, high_lists, low_lists, manage_lists, pin_lists, stepped, with_parts, asked_by, prepared_as, put_lists, refusal, is_unwritten, last_linked, Turn, told, IsAction, act_step, append_step, asked_as, asked_for, demand_of, demanded_as, done_step, dummy_for, facts_with, judged_as, link_as, link_step, login_id, login_orb, low_as, low_step, manage_start, managed_by, orb_by, pinned_for, put_as, put_step, ring_for}
+use Rattle.sbp_world.proofs.Words.Laws.{cmd_of, event_of}
+use Rattle.sbp_world.proofs.Words.World.{weight_in, WorldState}
 use Rattle.std.specs.Prelude.{ℕ, suc, ◌+◌, ◌^◌, ◌<◌, ◌≤◌, ◌==◌, is_some, Bool, true, false, cond, List, [], ◌∷◌, ◌++◌, Option, Some, None, Result, Ok, Err}
-use Rattle.std.proofs.Common.{◌≡◌, refl, sym, ◌∙◌, ap, subst, arith}
-use Rattle.bus_memory.specs.Memory.{Memory}
-use Rattle.label_table.specs.declared.judgement.Asked.{Asked}
-use Rattle.label_table.specs.Layer.{Layer}
-use Rattle.orb_layout.specs.declared.management.ManagementOrb.{ManagementOrb}
-use Rattle.orb_list.specs.declared.fault.ListFault.{ListFault}
-use Rattle.orb_list.specs.declared.list.PresentList.{PresentList}
-use Rattle.orb_list.specs.Tickets.{TicketParts}
-use Rattle.orb_list.specs.Table.{SlotTable, find_in, list_number, lists_begun, orb_number}
 use Rattle.orb_list.specs.Table as table
-use Rattle.sbp_journal.specs.Run.{Moment}
-use Rattle.sbp_journal.specs.Buffers.{buffer_of}
-use Rattle.sbp_journal.specs.Outgoings.{OutboxState}
-use Rattle.sbp_journal.specs.declared.event.Action.{Action}
 use Rattle.sbp_journal.specs.declared.event.Action.TheVariants as actions
-use Rattle.sbp_journal.specs.declared.event.Cmd.{Cmd}
 use Rattle.sbp_journal.specs.declared.event.Event.TheVariants as events
 use Rattle.sbp_journal.specs.declared.note.Note.TheVariants as notes
-use Rattle.sbp_journal.specs.declared.operation.Operation.{Operation}
 use Rattle.sbp_journal.specs.declared.operation.Operation.TheVariants as operations
 use Rattle.sbp_journal.specs.declared.side.Side.TheVariants as sides
-use Rattle.sbp_initiator.specs.declared.purpose.Demand.{Demand}
-use Rattle.sbp_initiator.specs.declared.purpose.Purpose.{Purpose}
-use Rattle.sbp_initiator.specs.declared.state.InitiatorState.{InitiatorState}
-use Rattle.orb_list.specs.Lists.{dummy_lists, high_lists, low_lists, manage_lists, pin_lists, stepped, with_parts}
-use Rattle.sbp_initiator.specs.Commands.{asked_by, prepared_as, put_lists}
-use Rattle.sbp_initiator.specs.Refusals.{refusal}
-use Rattle.sbp_initiator.specs.States.{is_unwritten, last_linked}
-use Rattle.sbp_initiator.specs.Effects.{Turn, told}
-use Rattle.sbp_initiator.specs.Acting.{IsAction, act_step, append_step, asked_as, asked_for, demand_of, demanded_as, done_step, dummy_for, facts_with, judged_as, link_as, link_step, login_id, login_orb, low_as, low_step, manage_start, managed_by, orb_by, pinned_for, put_as, put_step, ring_for}
-use Rattle.sbp_laws.specs.Lists.{cmd_of}
-use Rattle.sbp_laws.specs.Turns.{event_of}
-use Rattle.sbp_world.specs.Lines.{weight_in}
-use Rattle.sbp_bus.specs.Loads.{weight_of}
-use Rattle.sbp_world.specs.Worlds.{WorldState}
 use Rattle.sbp_world.proofs.Wire.Counted.{most_share}
 use Rattle.sbp_world.proofs.Wire.OwnCalls as calls
 use Rattle.sbp_world.proofs.Wire.OwnCounts.{Own, appends_first, appends_next, history, latest, widens}

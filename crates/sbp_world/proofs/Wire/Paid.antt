@@ -1,12 +1,8 @@
 -- The load of an initiator is what its ORBs count: those of its latest list one by one, where that was not dropped, and the others by their list.
-use Rattle.std.specs.Prelude.{ℕ, suc, ◌+◌, ◌-◌, ◌^◌, ◌<◌, ◌≤◌, Bool, true, false, cond, if◌then◌else◌, List, [], ◌∷◌, ◌++◌, Option, Some, None}
-use Rattle.std.proofs.Common.{◌≡◌, arith, refl, sym, ◌∙◌, ap, subst, nat_eq}
-use Rattle.std.proofs.lemmas.Bool.Decides.{nat_tests}
-use Rattle.sbp_base.specs.Update.{upd, upd2}
-use Rattle.sbp_laws.specs.Lists.{TakenStatus}
-use Rattle.sbp_bus.specs.declared.loads.ListLoad.{ListLoad}
-use Rattle.sbp_bus.specs.declared.loads.OrbLoad.{OrbLoad}
-use Rattle.sbp_bus.specs.Loads.{append_step, appended_to, begun_step, capped, cut_left, cut_step, drop_step, orb_load, take_step, weights, with_left, without_orb}
+use Rattle.sbp_world.proofs.Words.Std.{if◌then◌else◌, ◌≡◌, arith, refl, sym, ◌∙◌, ap, subst, nat_eq, nat_tests, upd, upd2}
+use Rattle.sbp_world.proofs.Words.Wire.{ListLoad, OrbLoad, append_step, appended_to, begun_step, capped, cut_left, cut_step, drop_step, orb_load, take_step, weights, with_left, without_orb}
+use Rattle.sbp_world.proofs.Words.Laws.{TakenStatus}
+use Rattle.std.specs.Prelude.{ℕ, suc, ◌+◌, ◌-◌, ◌^◌, ◌<◌, ◌≤◌, Bool, true, false, cond, List, [], ◌∷◌, ◌++◌, Option, Some, None}
 use Rattle.sbp_world.proofs.Wire.Loaded.{Rises, capped_is, insert_here, insert_rises, insert_there, left_at, load_sum, load_sum_more, remove_here, remove_rises, remove_there, removed, weights_are}
 use Rattle.sbp_world.proofs.Common.{itself, equal_numbers, turned}
 

@@ -1,21 +1,12 @@
 -- What an ORB counts in a world is what the law says, and never much.
-use Rattle.std.specs.Prelude.{ℕ, zero, suc, ◌+◌, ◌-◌, ◌*◌, ◌/◌, ◌^◌, ◌≤◌, Bool, true, false, if◌then◌else◌, List, [], ◌∷◌, length, sum, Some}
-use Rattle.std.proofs.Common.{◌≡◌, arith, refl, sym, ◌∙◌, ap, nat_eq}
-use Rattle.std.proofs.lemmas.Bool.Decides.{nat_tests}
-use Rattle.std.proofs.Math.Nat.{div-eq_of_lt}
-use Rattle.std.proofs.lemmas.List.Sums.{sum_by-cons}
+use Rattle.sbp_world.proofs.Words.Std.{if◌then◌else◌, ◌≡◌, arith, refl, sym, ◌∙◌, ap, nat_eq, nat_tests, div-eq_of_lt, sum_by-cons}
+use Rattle.sbp_world.proofs.Words.Wire.{Cmd, chunks_in, chunks_of, transfers_by, weight_of}
+use Rattle.sbp_world.proofs.Words.Initiator.{start, behind, Segment, chunks, pieces, segment_chunks, single, IsCommand}
+use Rattle.sbp_world.proofs.Words.Laws.{share_of, laid_out, placed}
+use Rattle.std.specs.Prelude.{ℕ, zero, suc, ◌+◌, ◌-◌, ◌*◌, ◌/◌, ◌^◌, ◌≤◌, Bool, true, false, List, [], ◌∷◌, length, sum, Some}
 use Rattle.std.proofs.lemmas.List.{length-append}
 use Rattle.bus_memory.specs.declared.window.Window.TheVariants as windows
-use Rattle.bus_memory.specs.Windows.{start}
-use Rattle.orb_list.specs.Layout.{behind}
-use Rattle.page_table.specs.declared.segment.Segment.{Segment}
-use Rattle.page_table.specs.Buffer.{chunks, pieces, segment_chunks, single}
-use Rattle.sbp_initiator.specs.Commands.{IsCommand}
-use Rattle.sbp_journal.specs.declared.event.Cmd.{Cmd}
-use Rattle.sbp_laws.specs.Budget.{share_of}
-use Rattle.sbp_laws.specs.CarriedBytes.{laid_out, placed}
 use Rattle.sbp_bus.proofs.Weights.{div_below, size_few, size_some}
-use Rattle.sbp_bus.specs.Loads.{chunks_in, chunks_of, transfers_by, weight_of}
 use Rattle.sbp_world.proofs.Wire.Counted.{most_share}
 
 -- ---- how many chunks

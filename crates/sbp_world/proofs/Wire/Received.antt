@@ -1,32 +1,12 @@
 -- A packet is delivered to the target, or to an initiator: what its node does with it is a list of moves of the wire.
-use Rattle.std.specs.Prelude.{◌≡◌, ◌≤◌, ◌<◌, ℕ, suc, Bool, true, false, if◌then◌else◌, List, length, slice_set, Option, Some, None, refl}
-use Rattle.std.proofs.Common.{arith, sym, ◌∙◌, ap, subst}
+use Rattle.sbp_world.proofs.Words.Std.{if◌then◌else◌, slice_set, arith, sym, ◌∙◌, ap, subst, upd}
+use Rattle.sbp_world.proofs.Words.Wire.{Layer, Finding, judging_step, Sent, found_sent, is_flying, bare, AreSmall, ArePlainSides, IsDelivery, Moment, terms, OutboxState, empty_outbox, Judged, judged_note, id_of, topology_at}
+use Rattle.sbp_world.proofs.Words.Target.{Told, NodeState, received, Whole}
+use Rattle.sbp_world.proofs.Words.Initiator.{Turn, receive_step, InitiatorState}
+use Rattle.sbp_world.proofs.Words.World.{Arrival, arrived, at_none, at_target, delivered, delivered_by, initiators_received, marked, received_by, received_step, target_received, whole_of, initiator_received, handed_out, WorldState, Scene, initiator_at, with_initiator, with_note, with_target, Stands, StandsAt, layer_in, layers_of}
+use Rattle.std.specs.Prelude.{◌≡◌, ◌≤◌, ◌<◌, ℕ, suc, Bool, true, false, List, length, Option, Some, None, refl}
 use Rattle.std.proofs.lemmas.List.{length-set}
-use Rattle.sbp_base.specs.Update.{upd}
-use Rattle.label_table.specs.Layer.{Layer, Finding, judging_step}
-use Rattle.packet_store.specs.declared.sent.Sent.{Sent}
-use Rattle.packet_store.specs.Kept.{found_sent, is_flying}
-use Rattle.rbc_disk.specs.Runs.{Told}
-use Rattle.bus_transactions.specs.Bare.{bare}
-use Rattle.bus_transactions.specs.Fitting.{AreSmall}
-use Rattle.bus_transactions.specs.Steps.{ArePlainSides, IsDelivery}
-use Rattle.sbp_journal.specs.Run.{Moment}
-use Rattle.sbp_journal.specs.Wire.{terms}
-use Rattle.sbp_journal.specs.Outgoings.{OutboxState, empty_outbox}
-use Rattle.sbp_journal.specs.declared.cause.Judged.{Judged}
-use Rattle.sbp_initiator.specs.Effects.{Turn}
-use Rattle.sbp_initiator.specs.Receiving.{receive_step}
-use Rattle.sbp_initiator.specs.declared.state.InitiatorState.{InitiatorState}
-use Rattle.sbp_target.specs.Nodes.{NodeState}
-use Rattle.sbp_target.specs.Receiving.{received}
-use Rattle.sbp_target.specs.Replies.{Whole}
-use Rattle.sbp_world.specs.declared.parts.delivering.Arrival.{Arrival}
-use Rattle.sbp_bus.specs.Packets.{judged_note}
-use Rattle.sbp_world.specs.Delivering.{arrived, at_initiator, at_none, at_target, delivered, delivered_by, initiators_received, marked, received_by, received_step, target_received, whole_of, initiator_received}
-use Rattle.sbp_bus.specs.Generations.{id_of, topology_at}
-use Rattle.sbp_world.specs.Handing.{handed_out}
-use Rattle.sbp_world.specs.Worlds.{WorldState, Scene, initiator_at, with_initiator, with_note, with_target}
-use Rattle.sbp_world.specs.Wire.Wires.{Stands, StandsAt, layer_in, layers_of}
+use Rattle.sbp_world.specs.Delivering.{at_initiator}
 use Rattle.sbp_world.proofs.Wire.Alike.{IsAlike, alike_same, alike_then}
 use Rattle.sbp_world.proofs.Wire.Deliver.{judged_marked}
 use Rattle.sbp_world.proofs.Wire.Found.{IsKnown}

@@ -1,13 +1,9 @@
 -- Whether the present line is a repeat is up to its beginning: no note changes it.
+use Rattle.sbp_world.proofs.Words.Std.{◌∙◌}
+use Rattle.sbp_world.proofs.Words.Wire.{rcode_of, Moment, said, Kind, is_same_kind, Part, request, response, part_of, is_to, Sending, Transaction, asked_by, between, begun_by, Held, Owed, Terms, asked_in, begins, begun_in, closes, closes_if, free, gets, gets_as, gives, ignores, ignores_that, judges, judges_if, noted, pays, rests, sends, terms, times_out, waits, Cause, Note}
 use Rattle.std.specs.Prelude.{◌≡◌, ℕ, Bool, true, false, List, [], ◌∷◌, ◌++◌, map, Option, Some, None, refl}
-use Rattle.std.proofs.Common.{◌∙◌}
-use Rattle.async_packet.specs.Fields.{rcode_of}
-use Rattle.sbp_journal.specs.Run.{Moment, said}
-use Rattle.sbp_journal.specs.Transactions.{Kind, is_same_kind, Part, request, response, no_packet, part_of, is_to, Sending, Transaction, asked_by, between, begun_by}
-use Rattle.sbp_journal.specs.Wire.{Held, Owed, Terms, asked_in, begins, begun_in, closes, closes_if, free, gets, gets_as, gives, ignores, ignores_that, judges, judges_if, noted, pays, rests, sends, terms, times_out, waits}
-use Rattle.sbp_journal.specs.declared.cause.Cause.{Cause}
+use Rattle.sbp_journal.specs.Transactions.{no_packet}
 use Rattle.sbp_journal.specs.declared.cause.Cause.TheVariants as causes
-use Rattle.sbp_journal.specs.declared.note.Note.{Note}
 use Rattle.sbp_journal.specs.declared.note.Note.TheVariants as notes
 
 judges_same : (began : Option Transaction) (cause : Option Cause) (s : ℕ) (q : Sending) (t : Terms) → (judges began cause s q t).repeats ≡ t.repeats

@@ -1,27 +1,15 @@
 -- The laws of the wire hold of every run.
+use Rattle.sbp_world.proofs.Words.Std.{arith, sym, ◌∙◌, ap, subst, get_or-replicate}
+use Rattle.sbp_world.proofs.Words.Wire.{Moment, asked, said, local_id, Topology, first_topology, id_of, no_topology}
+use Rattle.sbp_world.proofs.Words.Initiator.{new_state, InitiatorState}
+use Rattle.sbp_world.proofs.Words.World.{moments_behind, new_initiators, new_world, ready_logins, AreEntries, Entry, Run, after, beginning, happens, WorldState, OwnFittingLaw, OwnHolds, FittingLaw, AreLines, StandsAfter, IsOfWire}
 use Rattle.std.specs.Prelude.{◌≡◌, ◌≤◌, ◌<◌, ℕ, suc, ◌+◌, ◌^◌, Bool, true, false, List, [], ◌∷◌, ◌++◌, length, map, replicate, refl}
-use Rattle.std.proofs.Common.{arith, sym, ◌∙◌, ap, subst}
-use Rattle.std.proofs.lemmas.List.{get_or-replicate}
-use Rattle.sbp_journal.specs.Run.{Moment, asked, said}
 use Rattle.sbp_journal.specs.declared.event.Event.TheVariants as events
-use Rattle.sbp_initiator.specs.Initiators.{new_state}
-use Rattle.sbp_initiator.specs.declared.state.InitiatorState.{InitiatorState}
-use Rattle.sbp_journal.specs.Wire.{local_id}
 use Rattle.sbp_bus.proofs.Making.{ids_size}
 use Rattle.sbp_world.proofs.Making.{initiators_size}
-use Rattle.sbp_bus.specs.declared.generations.Topology.{Topology}
-use Rattle.sbp_bus.specs.Generations.{first_topology, id_of, no_topology}
-use Rattle.sbp_world.specs.Histories.{moments_behind}
-use Rattle.sbp_world.specs.Making.{new_initiators, new_world, ready_logins}
-use Rattle.sbp_world.specs.Runs.{AreEntries, Entry, Run, after, beginning}
-use Rattle.sbp_world.specs.Lines.{happens}
-use Rattle.sbp_world.specs.Worlds.{WorldState}
-use Rattle.sbp_world.specs.FitInitiator.{FittingLaw as OwnFittingLaw, Holds as OwnHolds}
-use Rattle.sbp_world.specs.FitTarget.{FittingLaw}
 use Rattle.sbp_world.proofs.FitInitiator.Law.{fitting_law as own_fitting_law}
 use Rattle.sbp_world.proofs.FitTarget.Law.{fitting_law}
-use Rattle.sbp_world.specs.Wire.Lines.{AreLines, RunLaw, StandsAfter}
-use Rattle.sbp_world.specs.Wire.History.{IsOfWire}
+use Rattle.sbp_world.specs.Wire.Lines.{RunLaw}
 use Rattle.sbp_world.proofs.Wire.Found.{known_has}
 use Rattle.sbp_world.proofs.Wire.Holding.{NodesOf, Sound, TargetOf, of_target, own_has, seen_at, state_at, target_has}
 use Rattle.sbp_world.proofs.Wire.Sound.{line_goes}

@@ -1,27 +1,13 @@
 -- A node sees the latest generation of the bus; a second passes at the target; a unit gets a key.
-use Rattle.std.specs.Prelude.{◌≡◌, ◌≤◌, ◌<◌, ℕ, zero, suc, nat_eq, nat_lt, Bool, true, false, cond, if◌then◌else◌, List, ◌∷◌, length, slice_index_or, slice_set, refl}
-use Rattle.std.proofs.Common.{arith, sym, ◌∙◌, ap, subst}
-use Rattle.std.proofs.lemmas.Grind.{get_or-set_at}
-use Rattle.std.proofs.lemmas.List.{get_or-set_other, length-set}
-use Rattle.sbp_base.specs.Update.{upd}
-use Rattle.label_table.specs.Layer.{Layer, seen_in_generation, seeing_step}
-use Rattle.bus_transactions.specs.Bare.{bare}
-use Rattle.bus_transactions.specs.Moves.{see}
-use Rattle.bus_transactions.specs.Wire.{Node, Wire}
+use Rattle.sbp_world.proofs.Words.Std.{if◌then◌else◌, slice_index_or, slice_set, arith, sym, ◌∙◌, ap, subst, get_or-set_at, get_or-set_other, upd}
+use Rattle.sbp_world.proofs.Words.Wire.{Layer, seen_in_generation, seeing_step, bare, see, Node, Wire, Moment, said, terms, Topology, id_of, no_topology, topology_at}
+use Rattle.sbp_world.proofs.Words.Target.{NodeState, Purpose}
+use Rattle.sbp_world.proofs.Words.Initiator.{InitiatorState, new_state}
+use Rattle.sbp_world.proofs.Words.World.{told_seen, with_seen, WorldState, AreEntered, Knows, Stands, layer_in}
+use Rattle.std.specs.Prelude.{◌≡◌, ◌≤◌, ◌<◌, ℕ, zero, suc, nat_eq, nat_lt, Bool, true, false, cond, List, ◌∷◌, length, refl}
+use Rattle.std.proofs.lemmas.List.{length-set}
 use Rattle.bus_transactions.proofs.Bares.{takes_steps}
-use Rattle.sbp_journal.specs.Run.{Moment, said}
-use Rattle.sbp_journal.specs.Wire.{terms}
 use Rattle.sbp_journal.specs.declared.note.Note.TheVariants as notes
-use Rattle.sbp_initiator.specs.declared.state.InitiatorState.{InitiatorState}
-use Rattle.sbp_initiator.specs.Initiators.{new_state}
-use Rattle.sbp_target.specs.Nodes.{NodeState}
-use Rattle.sbp_target.specs.declared.purpose.Purpose.{Purpose}
-use Rattle.sbp_bus.specs.declared.generations.Topology.{Topology}
-use Rattle.sbp_bus.specs.Generations.{id_of, no_topology, topology_at}
-use Rattle.sbp_world.specs.Nodes.{told_seen, with_seen}
-use Rattle.sbp_world.specs.Worlds.{WorldState}
-use Rattle.sbp_world.specs.Wire.Knows.{AreEntered, Knows}
-use Rattle.sbp_world.specs.Wire.Wires.{Stands, layer_in}
 use Rattle.sbp_world.proofs.Wire.Bus.{aged, holds}
 use Rattle.sbp_world.proofs.Wire.Tells.{leads}
 use Rattle.sbp_world.proofs.Wire.Entered.{less_entered, sees_less}

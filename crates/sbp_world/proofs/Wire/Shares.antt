@@ -1,17 +1,10 @@
 -- What the ORBs of a history count in the budget of a settle, ORB by ORB, the first append first: of each initiator's lists that were not cut
 -- those without a status.
-use Rattle.std.specs.Prelude.{ℕ, ◌+◌, ◌==◌, ◌&&◌, not, Bool, true, false, cond, if◌then◌else◌, List, [], ◌∷◌, ◌++◌, Option, Some, None}
-use Rattle.std.proofs.Common.{◌≡◌, arith, refl, sym, ◌∙◌, ap, nat_eq}
-use Rattle.std.proofs.lemmas.Bool.Decides.{nat_tests}
-use Rattle.sbp_base.specs.Update.{upd2, upd3}
-use Rattle.sbp_journal.specs.Run.{Moment, said}
-use Rattle.sbp_journal.specs.declared.event.Cmd.{Cmd}
+use Rattle.sbp_world.proofs.Words.Std.{if◌then◌else◌, ◌≡◌, arith, refl, sym, ◌∙◌, ap, nat_eq, nat_tests, upd2, upd3}
+use Rattle.sbp_world.proofs.Words.Wire.{Moment, said, Cmd, NoteBuffer}
+use Rattle.sbp_world.proofs.Words.Laws.{share_of, shares, TakenStatus, cmd_of, command_at, is_none_taken, taken_at, is_cut, event_of}
+use Rattle.std.specs.Prelude.{ℕ, ◌+◌, ◌==◌, ◌&&◌, not, Bool, true, false, cond, List, [], ◌∷◌, ◌++◌, Option, Some, None}
 use Rattle.sbp_journal.specs.declared.note.Note.TheVariants as notes
-use Rattle.sbp_journal.specs.declared.note.NoteBuffer.{NoteBuffer}
-use Rattle.sbp_laws.specs.Budget.{share_of, shares}
-use Rattle.sbp_laws.specs.Lists.{TakenStatus, cmd_of, command_at, is_none_taken, taken_at}
-use Rattle.sbp_laws.specs.OrderLaw.{is_cut}
-use Rattle.sbp_laws.specs.Turns.{event_of}
 use Rattle.sbp_world.proofs.Common.{itself}
 use Rattle.sbp_world.proofs.Lists.OrbSteps.{yes}
 

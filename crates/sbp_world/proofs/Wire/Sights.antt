@@ -1,26 +1,11 @@
 -- A node sees the latest generation, and knows the nodes that it asks in it.
-use Rattle.std.specs.Prelude.{◌≡◌, ◌≤◌, ◌<◌, ℕ, zero, suc, ◌-◌, nat_eq, nat_lt, Bool, true, false, if◌then◌else◌, List, length, slice_set, refl}
-use Rattle.std.proofs.Common.{arith, sym, ◌∙◌, ap, subst}
-use Rattle.std.proofs.lemmas.Grind.{get_or-set_at}
-use Rattle.std.proofs.lemmas.List.{get_or-set_other}
-use Rattle.bus_transactions.specs.Wire.{Node}
-use Rattle.sbp_journal.specs.Run.{Moment}
-use Rattle.sbp_journal.specs.Outgoings.{empty_outbox}
-use Rattle.sbp_journal.specs.Wire.{terms}
-use Rattle.sbp_initiator.specs.Effects.{Turn}
-use Rattle.sbp_initiator.specs.Seeing.{see_step}
-use Rattle.sbp_initiator.specs.declared.state.InitiatorState.{InitiatorState}
-use Rattle.sbp_target.specs.Nodes.{NodeState}
+use Rattle.sbp_world.proofs.Words.Std.{if◌then◌else◌, slice_set, arith, sym, ◌∙◌, ap, subst, get_or-set_at, get_or-set_other}
+use Rattle.sbp_world.proofs.Words.Wire.{Node, Moment, empty_outbox, terms, Topology, id_of, no_topology, topology_at}
+use Rattle.sbp_world.proofs.Words.Target.{NodeState, seen}
+use Rattle.sbp_world.proofs.Words.Initiator.{Turn, see_step, InitiatorState}
+use Rattle.sbp_world.proofs.Words.World.{handed_out, handed_all, initiator_learns, see_line, sees, target_learns, target_sees, told_seen, with_seen, WorldState, initiator_at, with_initiator, with_target, OwnFittingLaw, OwnHolds, Holds, FittingLaw, Stands}
+use Rattle.std.specs.Prelude.{◌≡◌, ◌≤◌, ◌<◌, ℕ, zero, suc, ◌-◌, nat_eq, nat_lt, Bool, true, false, List, length, refl}
 use Rattle.sbp_target.specs.Nodes as target
-use Rattle.sbp_target.specs.Receiving.{seen}
-use Rattle.sbp_bus.specs.declared.generations.Topology.{Topology}
-use Rattle.sbp_bus.specs.Generations.{id_of, no_topology, topology_at}
-use Rattle.sbp_world.specs.Handing.{handed_out}
-use Rattle.sbp_world.specs.Nodes.{handed_all, initiator_learns, see_line, sees, target_learns, target_sees, told_seen, with_seen}
-use Rattle.sbp_world.specs.Worlds.{WorldState, initiator_at, with_initiator, with_target}
-use Rattle.sbp_world.specs.FitInitiator.{FittingLaw as OwnFittingLaw, Holds as OwnHolds}
-use Rattle.sbp_world.specs.FitTarget.{Holds, FittingLaw}
-use Rattle.sbp_world.specs.Wire.Wires.{Stands}
 use Rattle.sbp_world.proofs.Wire.Bus.{aged, holds}
 use Rattle.sbp_world.proofs.Wire.Found.{has_id, has_known, known_has}
 use Rattle.sbp_world.proofs.Wire.Holding.{In, KnownTo, NodesHold, NodesOf, OwnNodes, Sound, TargetOf, latest_small, of_target, own_has, target_has, to_target, nodes_alike, own_set, seen_at, state_at}

@@ -1,46 +1,16 @@
 -- No line changes how many initiators there are, and how many units.
-use Rattle.std.proofs.Common.{◌≡◌, ◌∙◌, refl, ap, Result, Ok, Err, replicate, ℕ, ◌+◌, ◌-◌, ◌==◌, ◌||◌, not, nat_lt, Bool, true, false, cond, List, [], ◌∷◌, length, Option, Some, None}
-use Rattle.std.specs.Prelude.{slice_index_or}
-use Rattle.std.proofs.lemmas.List.{length-set, length-replicate}
-use Rattle.label_table.specs.declared.reply.Stale.{Stale}
-use Rattle.packet_store.specs.declared.sent.Sent.{Sent}
-use Rattle.packet_store.specs.Kept.{found_sent, is_flying}
-use Rattle.packet_store.specs.Stored.{deliver_step}
-use Rattle.rbc_disk.specs.Held.{Held}
-use Rattle.rbc_disk.specs.Runs.{Told}
-use Rattle.rbc_disk.specs.Units.{new_unit}
-use Rattle.sbp_initiator.specs.declared.state.InitiatorState.{InitiatorState}
-use Rattle.sbp_initiator.specs.Acting.{act_step}
-use Rattle.sbp_initiator.specs.Initiators.{new_state}
-use Rattle.sbp_initiator.specs.Receiving.{receive_step}
-use Rattle.sbp_initiator.specs.Seeing.{see_step}
-use Rattle.sbp_journal.specs.declared.cause.Judged.{Judged}
-use Rattle.sbp_journal.specs.declared.event.Action.{Action}
-use Rattle.sbp_journal.specs.declared.event.Event.{Event}
+use Rattle.sbp_world.proofs.Words.Std.{◌≡◌, ◌∙◌, refl, ap, Result, Ok, Err, replicate, ℕ, ◌+◌, ◌-◌, ◌==◌, ◌||◌, not, nat_lt, Bool, true, false, cond, List, [], ◌∷◌, length, Option, Some, None, slice_index_or, length-replicate}
+use Rattle.sbp_world.proofs.Words.Wire.{Stale, Sent, found_sent, is_flying, deliver_step, Judged, Action, Event, OutboxState, empty_outbox, Request, id_of, no_packet, find}
+use Rattle.sbp_world.proofs.Words.Target.{Held, Told, new_unit, NodeState, expired, received, with_key, Whole}
+use Rattle.sbp_world.proofs.Words.Initiator.{InitiatorState, act_step, new_state, receive_step, see_step}
+use Rattle.sbp_world.proofs.Words.World.{Arrival, arrived, arrived_by, delivered, delivered_by, initiators_received, marked, received_by, received_step, target_received, handed_out, acted, acted_by, happens, happens_to, keyed, no_unit, weight_in, new_world, handed_all, reset_line, see_line, sees, tick_line, delivered_if, expires, first_told, inject_line, injected, injected_to, is_in_flight, lose_line, may_repeat, timed_out, timeout_line, timeout_of, posted, after_all, delivered_at, delivered_next, lowest, Scene, WorldState, begun, initiator_at, with_initiator, with_note, with_target}
+use Rattle.std.proofs.lemmas.List.{length-set}
 use Rattle.sbp_journal.specs.declared.event.Event.TheVariants as events
 use Rattle.sbp_journal.specs.declared.note.Note.TheVariants as notes
-use Rattle.sbp_journal.specs.Outgoings.{OutboxState, empty_outbox}
-use Rattle.sbp_target.specs.Nodes.{NodeState}
 use Rattle.sbp_target.specs.Nodes as target
-use Rattle.sbp_target.specs.Receiving.{expired, received, with_key}
-use Rattle.sbp_target.specs.Replies.{Whole}
-use Rattle.sbp_world.specs.declared.parts.delivering.Arrival.{Arrival}
-use Rattle.sbp_bus.specs.declared.requests.Request.{Request}
 use Rattle.sbp_world.specs.Delivering as delivering
-use Rattle.sbp_world.specs.Delivering.{arrived, arrived_by, delivered, delivered_by, initiators_received, marked, received_by, received_step, target_received}
-use Rattle.sbp_bus.specs.Generations.{id_of}
-use Rattle.sbp_bus.specs.Packets.{no_packet}
-use Rattle.sbp_world.specs.Handing.{handed_out}
-use Rattle.sbp_world.specs.Lines.{acted, acted_by, happens, happens_to, keyed, no_unit, weight_in}
-use Rattle.sbp_world.specs.Making.{new_world}
 use Rattle.sbp_world.specs.Nodes as nodes
-use Rattle.sbp_world.specs.Nodes.{handed_all, reset_line, see_line, sees, tick_line}
-use Rattle.sbp_world.specs.Packets.{delivered_if, expires, first_told, inject_line, injected, injected_to, is_in_flight, lose_line, may_repeat, timed_out, timeout_line, timeout_of}
 use Rattle.sbp_world.specs.Packets as packets
-use Rattle.sbp_bus.specs.Requests.{find}
-use Rattle.sbp_world.specs.Sending.{posted}
-use Rattle.sbp_world.specs.Settling.{after_all, delivered_at, delivered_next, lowest}
-use Rattle.sbp_world.specs.Worlds.{Scene, WorldState, begun, initiator_at, with_initiator, with_note, with_target}
 use Rattle.sbp_world.proofs.Wire.Nodes.{handed_alike}
 use Rattle.sbp_world.proofs.Wire.TargetSizes as target_sizes
 use Rattle.sbp_world.proofs.Making.{initiators_size}

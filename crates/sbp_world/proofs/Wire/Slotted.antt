@@ -1,26 +1,12 @@
 -- The slots of an initiator: the ORBs that wait are of the present list and no later than its last one, and every ORB that has a name is of a
 -- list that was begun.
-use Rattle.std.specs.Prelude.{ℕ, suc, ◌+◌, ◌<◌, ◌≤◌, ◌==◌, Bool, true, false, cond, List, length, map, slice_set, Option, Some, None, Result, Ok, Err}
-use Rattle.std.proofs.Common.{◌≡◌, arith, refl, sym, ◌∙◌, ap, subst, nat_eq}
-use Rattle.std.proofs.Math.ListN.{length-set}
-use Rattle.std.proofs.lemmas.List.{get_or-map, get_or_past, length-map}
-use Rattle.std.proofs.lemmas.List.Quantifiers.{position-Some}
-use Rattle.std.proofs.lemmas.Option.{same_Some}
-use Rattle.bus_memory.specs.Memory.{Memory}
-use Rattle.bus_memory.specs.Windows.{slot_of}
-use Rattle.orb_layout.specs.declared.status.StatusBlock.{StatusBlock}
-use Rattle.orb_layout.specs.StatusBlocks.{row_of}
-use Rattle.orb_list.specs.declared.fault.ListFault.{ListFault}
-use Rattle.orb_list.specs.declared.list.Link.{Link}
+use Rattle.sbp_world.proofs.Words.Std.{slice_set, ◌≡◌, arith, refl, sym, ◌∙◌, ap, subst, nat_eq, length-set, get_or_past, length-map, position-Some, same_Some}
+use Rattle.sbp_world.proofs.Words.Initiator.{Memory, slot_of, StatusBlock, row_of, ListFault, Link, Linking, PresentList, SlotState, Slot, TicketParts, SlotTable, checked, drop_for, drop_step, dummy_at, dummy_step, extended, free_all_step, free_state, freed, high_for, high_step, is_free, link_set, list_number, lists_begun, low_for, may_prepare, next_ticket, orb_number, passed_for, pin_at, pin_step, prepare_at, prepare_step, rested, slot_in, state_after, status_at, status_for, swept, unpin_for, unpin_step, unused, waiting, waits_high, waits_in, waits_low, with_link, with_status, released, Asked}
+use Rattle.std.specs.Prelude.{ℕ, suc, ◌+◌, ◌<◌, ◌≤◌, ◌==◌, Bool, true, false, cond, List, length, map, Option, Some, None, Result, Ok, Err}
+use Rattle.std.proofs.lemmas.List.{get_or-map}
 use Rattle.orb_list.specs.declared.list.Link.TheVariants as links
-use Rattle.orb_list.specs.declared.list.Linking.{Linking}
-use Rattle.orb_list.specs.declared.list.PresentList.{PresentList}
-use Rattle.orb_list.specs.declared.slot.SlotState.{SlotState}
 use Rattle.orb_list.specs.declared.slot.SlotState.TheVariants as states
-use Rattle.orb_list.specs.declared.slot.Slot.{Slot}
-use Rattle.orb_list.specs.Tickets.{TicketParts}
-use Rattle.orb_list.specs.Table.{SlotTable, checked, counted, drop_for, drop_step, dummy_at, dummy_step, extended, free_all_step, free_state, freed, high_for, high_step, is_free, link_set, list_number, lists_begun, low_for, low_step, may_prepare, next_ticket, orb_number, passed_for, pin_at, pin_step, prepare_at, prepare_step, rested, slot_in, state_after, status_at, status_for, status_step, swept, unpin_for, unpin_step, unused, waiting, waits_high, waits_in, waits_low, with_link, with_status, released}
-use Rattle.orb_list.specs.Requests.{Asked}
+use Rattle.orb_list.specs.Table.{counted, low_step, status_step}
 use Rattle.orb_list.proofs.Tied.{may_lowest, past_slots, released_last, released_waits, rested_last, set_here, set_there}
 
 -- the present list, and its last ORB

@@ -1,42 +1,16 @@
 -- Each line of a world is a list of moves of the wire, and leaves nodes that know whom they ask.
-use Rattle.std.specs.Prelude.{◌≡◌, ◌≤◌, ◌<◌, ℕ, suc, ◌+◌, ◌^◌, ◌==◌, ◌||◌, nat_lt, Bool, true, false, if◌then◌else◌, List, [], ◌∷◌, ◌++◌, length, map, slice_set, Option, Some, None, refl}
-use Rattle.std.specs.List.{All, list_any}
-use Rattle.std.proofs.Common.{arith, sym, ◌∙◌, ap, subst}
-use Rattle.std.proofs.lemmas.List.{length-set, set-get_or}
-use Rattle.packet_store.specs.Kept.{first, flying, is_flying}
-use Rattle.rbc_disk.specs.Runs.{Told}
-use Rattle.bus_transactions.specs.Bare.{bare}
-use Rattle.bus_transactions.specs.Fitting.{AreSmall}
-use Rattle.bus_transactions.specs.May.{is_plain, is_reset}
-use Rattle.bus_transactions.specs.Steps.{ArePlainSides, IsAsking}
-use Rattle.sbp_journal.specs.Run.{Moment, asked, said}
-use Rattle.sbp_journal.specs.Outgoings.{empty_outbox}
-use Rattle.sbp_journal.specs.Wire.{terms}
-use Rattle.sbp_journal.specs.declared.event.Action.{Action}
-use Rattle.sbp_journal.specs.declared.event.Event.{Event}
+use Rattle.sbp_world.proofs.Words.Std.{if◌then◌else◌, slice_set, All, list_any, arith, sym, ◌∙◌, ap, subst, set-get_or}
+use Rattle.sbp_world.proofs.Words.Wire.{first, flying, is_flying, bare, AreSmall, is_plain, is_reset, ArePlainSides, IsAsking, Moment, asked, said, empty_outbox, terms, Action, Event, id_of, topology_at, no_packet, end_note}
+use Rattle.sbp_world.proofs.Words.Target.{Told, ticked, with_key}
+use Rattle.sbp_world.proofs.Words.Initiator.{act_step, Turn, new_state, InitiatorState}
+use Rattle.sbp_world.proofs.Words.World.{handed_out, acted, acted_by, happens, keyed, no_unit, weight_in, reset_line, target_ticks, tick_line, delivered_if, first_told, injected, injected_to, inject_line, is_in_flight, lose_line, lost, may_repeat, refused, posted, after_all, delivered_at, delivered_next, lowest, settled, is_settled, WorldState, Scene, begun, initiator_at, with_initiator, with_note, with_target, without_notes, BytesAction, OwnFittingLaw, BytesTold, FittingLaw, IsLine, Stands, layer_in, layers_of}
+use Rattle.std.specs.Prelude.{◌≡◌, ◌≤◌, ◌<◌, ℕ, suc, ◌+◌, ◌^◌, ◌==◌, ◌||◌, nat_lt, Bool, true, false, List, [], ◌∷◌, ◌++◌, length, map, Option, Some, None, refl}
+use Rattle.std.proofs.lemmas.List.{length-set}
 use Rattle.sbp_journal.specs.declared.event.Event.TheVariants as events
 use Rattle.sbp_journal.specs.declared.note.Note.TheVariants as notes
 use Rattle.sbp_initiator.proofs.FirstRow.{refusal_law}
-use Rattle.sbp_initiator.specs.Acting.{act_step}
-use Rattle.sbp_initiator.specs.Effects.{Turn}
-use Rattle.sbp_initiator.specs.Initiators.{new_state}
-use Rattle.sbp_initiator.specs.declared.state.InitiatorState.{InitiatorState}
 use Rattle.sbp_target.specs.Nodes as target
-use Rattle.sbp_target.specs.Receiving.{ticked, with_key}
-use Rattle.sbp_bus.specs.Generations.{id_of, topology_at}
-use Rattle.sbp_world.specs.Handing.{handed_out}
-use Rattle.sbp_world.specs.Lines.{acted, acted_by, happens, keyed, no_unit, weight_in}
-use Rattle.sbp_world.specs.Nodes.{reset_line, target_ticks, tick_line}
-use Rattle.sbp_bus.specs.Packets.{no_packet, end_note}
-use Rattle.sbp_world.specs.Packets.{delivered_if, first_told, injected, injected_to, inject_line, is_in_flight, lose_line, lost, may_repeat, refused}
-use Rattle.sbp_world.specs.Sending.{posted}
-use Rattle.sbp_world.specs.Settling.{after_all, delivered_at, delivered_next, lowest, settled, is_settled}
-use Rattle.sbp_world.specs.Worlds.{WorldState, Scene, begun, initiator_at, with_initiator, with_note, with_target, without_notes}
-use Rattle.sbp_world.specs.FitInitiator.{BytesAction, FittingLaw as OwnFittingLaw}
-use Rattle.sbp_world.specs.FitTarget.{BytesTold, FittingLaw}
-use Rattle.sbp_world.specs.Wire.Lines.{IsLine}
 use Rattle.sbp_world.proofs.Wire.ToldBytes.{AreTold}
-use Rattle.sbp_world.specs.Wire.Wires.{Stands, layer_in, layers_of}
 use Rattle.sbp_world.proofs.Wire.Bus.{injects, loses, refuses, resets}
 use Rattle.sbp_world.proofs.Wire.Handing.{Knowing, asks_out}
 use Rattle.sbp_world.proofs.Wire.Hears.{hears, times_out_line}

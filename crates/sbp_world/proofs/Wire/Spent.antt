@@ -1,22 +1,11 @@
 -- Over every run what the world counts is what the history says.
+use Rattle.sbp_world.proofs.Words.Std.{◌≡◌, arith, refl, sym, ◌∙◌, ap, subst, get_or-replicate, length-replicate, none-some}
+use Rattle.sbp_world.proofs.Words.Wire.{Moment, asked, said, lists_weight, new_load}
+use Rattle.sbp_world.proofs.Words.Initiator.{new_table, unused, waiting, Slot, InitiatorState, new_state}
+use Rattle.sbp_world.proofs.Words.Laws.{shares}
+use Rattle.sbp_world.proofs.Words.World.{moments_behind, happens, new_initiators, new_world, ready_logins, AreEntries, Entry, Run, after, beginning, WorldState, begun, AreLines}
 use Rattle.std.specs.Prelude.{ℕ, suc, ◌+◌, ◌*◌, ◌^◌, ◌<◌, Bool, false, List, [], ◌∷◌, ◌++◌, length, map, None}
-use Rattle.std.proofs.Common.{◌≡◌, arith, refl, sym, ◌∙◌, ap, subst}
-use Rattle.std.proofs.lemmas.List.{get_or-replicate, length-replicate}
-use Rattle.std.proofs.lemmas.Option.{none-some}
-use Rattle.orb_list.specs.Table.{new_table, unused, waiting}
-use Rattle.orb_list.specs.declared.slot.Slot.{Slot}
-use Rattle.sbp_initiator.specs.declared.state.InitiatorState.{InitiatorState}
-use Rattle.sbp_initiator.specs.Initiators.{new_state}
-use Rattle.sbp_journal.specs.Run.{Moment, asked, said}
-use Rattle.sbp_laws.specs.Budget.{shares}
 use Rattle.sbp_world.proofs.Making.{initiators_size}
-use Rattle.sbp_world.specs.Histories.{moments_behind}
-use Rattle.sbp_world.specs.Lines.{happens}
-use Rattle.sbp_bus.specs.Loads.{lists_weight, new_load}
-use Rattle.sbp_world.specs.Making.{new_initiators, new_world, ready_logins}
-use Rattle.sbp_world.specs.Runs.{AreEntries, Entry, Run, after, beginning}
-use Rattle.sbp_world.specs.Worlds.{WorldState, begun}
-use Rattle.sbp_world.specs.Wire.Lines.{AreLines}
 use Rattle.sbp_world.proofs.Wire.Balanced.{AreSlotted, Balanced, CountsIn, begun_in, keys_in, state_at}
 use Rattle.sbp_world.proofs.Wire.Counted.{PaidIn, most_share, weighs}
 use Rattle.sbp_world.proofs.Wire.Held.{new_held}

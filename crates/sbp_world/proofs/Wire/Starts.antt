@@ -1,43 +1,20 @@
 -- The world at the start, and what the laws of the wire say of a history.
-use Rattle.std.specs.Prelude.{◌≡◌, ◌≤◌, ◌<◌, ℕ, zero, suc, ◌+◌, ◌%◌, nat_eq, Bool, true, false, List, [], ◌∷◌, ◌++◌, length, position, replicate, slice_index_or, Option, Some, None, refl, map}
-use Rattle.std.proofs.Common.{arith, sym, ◌∙◌, ap, subst}
-use Rattle.std.proofs.lemmas.List.{get_or_append_left, get_or-replicate, length-replicate}
-use Rattle.std.proofs.Math.Seq.{get_or-append_seam}
-use Rattle.label_table.specs.Layer.{new_layer}
-use Rattle.bus_transactions.specs.Bare.{bare}
-use Rattle.bus_transactions.specs.May.{is_plain}
-use Rattle.bus_transactions.specs.Moves.{start, tell, moved}
-use Rattle.bus_transactions.specs.Once.{OnceLaw}
-use Rattle.bus_transactions.specs.Packets.{PacketLaw}
-use Rattle.bus_transactions.specs.Answers.{AnswerLaw}
-use Rattle.bus_transactions.specs.Judging.{JudgementLaw}
-use Rattle.bus_transactions.specs.Sent.{SentLaw}
-use Rattle.bus_transactions.specs.Reached.{Reached}
-use Rattle.bus_transactions.specs.Wire.{Wire, beginning as no_wire}
-use Rattle.sbp_world.specs.Worlds.{WorldState}
+use Rattle.sbp_world.proofs.Words.Std.{position, slice_index_or, arith, sym, ◌∙◌, ap, subst, get_or_append_left, get_or-replicate, length-replicate, get_or-append_seam}
+use Rattle.sbp_world.proofs.Words.Wire.{new_layer, bare, is_plain, start, tell, moved, OnceLaw, PacketLaw, AnswerLaw, JudgementLaw, SentLaw, Reached, Wire, no_wire, Moment, asked, said, local_id, Topology, first_ids, first_topology, id_of, local_node, no_topology, Request, new_requests, request_at, Place}
+use Rattle.sbp_world.proofs.Words.Initiator.{InitiatorState, new_state}
+use Rattle.sbp_world.proofs.Words.World.{WorldState, new_initiators, new_world, notes_begin, IsOfWire, Stands, layer_in}
+use Rattle.std.specs.Prelude.{◌≡◌, ◌≤◌, ◌<◌, ℕ, zero, suc, ◌+◌, ◌%◌, nat_eq, Bool, true, false, List, [], ◌∷◌, ◌++◌, length, replicate, Option, Some, None, refl, map}
 use Rattle.bus_transactions.proofs.AnswerLaws.{answers_always}
 use Rattle.bus_transactions.proofs.JudgementLaws.{judged_always}
 use Rattle.bus_transactions.proofs.PacketLaws.{once_always, packets_always}
 use Rattle.bus_transactions.proofs.SentLaws.{sent_always}
 use Rattle.bus_transactions.proofs.Reaches.{goes_on, law_of}
-use Rattle.sbp_journal.specs.Run.{Moment, asked, said}
-use Rattle.sbp_journal.specs.Wire.{local_id}
 use Rattle.sbp_journal.specs.declared.event.Event.TheVariants as events
-use Rattle.sbp_initiator.specs.declared.state.InitiatorState.{InitiatorState}
-use Rattle.sbp_initiator.specs.Initiators.{new_state}
-use Rattle.sbp_bus.specs.declared.generations.Topology.{Topology}
-use Rattle.sbp_bus.specs.Generations.{first_ids, first_topology, id_of, local_node, no_topology}
-use Rattle.sbp_bus.specs.declared.requests.Request.{Request}
-use Rattle.sbp_bus.specs.Requests.{new_requests, request_at}
-use Rattle.sbp_world.specs.Making.{new_initiators, new_world, notes_begin}
 use Rattle.sbp_bus.proofs.Making.{ids_size}
 use Rattle.sbp_world.proofs.Making.{initiators_size}
-use Rattle.sbp_world.specs.Wire.History.{IsOfWire}
-use Rattle.sbp_world.specs.Wire.Wires.{Stands, layer_in}
 use Rattle.bus_transactions.proofs.Places.{new_looked}
 use Rattle.label_table.proofs.Sources.{default_in}
 use Rattle.label_table.specs.declared.place.LabelState.TheVariants as states
-use Rattle.label_table.specs.declared.place.Place.{Place}
 use Rattle.sbp_world.proofs.Wire.Entered.{not_free}
 
 -- one more behind a list

@@ -1,16 +1,8 @@
 -- After each line of a run the terms of its history are the states of the two ends of its world.
-use Rattle.std.proofs.Common.{◌≡◌, refl, sym, subst, ◌<◌, ◌≤◌, ℕ, true, List, [], length}
-use Rattle.rbc_disk.specs.Disk.{Disk}
-use Rattle.sbp_journal.specs.Run.{Moment}
-use Rattle.sbp_world.specs.Histories.{history_of}
-use Rattle.sbp_world.specs.Hosts.Runs.{IsRun}
-use Rattle.sbp_world.specs.Lists.FewLogins.{IsTameOrFew}
-use Rattle.sbp_world.specs.Lists.Needs.{IsCalm, IsOpenAt, initiator_in, is_open_at}
-use Rattle.sbp_world.specs.Lists.OneUp.{AreApart}
-use Rattle.sbp_world.specs.Making.{ready_logins}
-use Rattle.sbp_world.specs.Runs.{Run, after, beginning}
-use Rattle.sbp_world.specs.Wire.States.{AreClosed, AreInitiators, AreOpenLists, AreStates, IsTarget}
-use Rattle.sbp_world.specs.Worlds.{Scene, WorldState}
+use Rattle.sbp_world.proofs.Words.Std.{◌≡◌, refl, sym, subst, ◌<◌, ◌≤◌, ℕ, true, List, [], length}
+use Rattle.sbp_world.proofs.Words.Wire.{Moment}
+use Rattle.sbp_world.proofs.Words.Target.{Disk}
+use Rattle.sbp_world.proofs.Words.World.{history_of, IsRun, IsTameOrFew, IsCalm, IsOpenAt, initiator_in, is_open_at, AreApart, ready_logins, Run, after, beginning, AreClosed, AreInitiators, AreOpenLists, AreStates, IsTarget, Scene, WorldState, AreTaken}
 use Rattle.sbp_world.proofs.Agents.AskedRuns.{asked_run_law}
 use Rattle.sbp_world.proofs.Agents.CrewRuns.{agents_run_law, serials_law}
 use Rattle.sbp_world.proofs.Agents.Enabling.{enabled_law}
@@ -25,7 +17,6 @@ use Rattle.sbp_world.proofs.Hosts.Runs.{count_after, run_law}
 use Rattle.sbp_world.proofs.Lists.Clauses.{one_up, open_lists_law}
 use Rattle.sbp_world.proofs.Lists.OpenSends.{latest_is, none_open, open_is}
 use Rattle.sbp_world.proofs.Lists.OpenProved.{taken_lists_law}
-use Rattle.sbp_world.specs.Lists.Taken.{AreTaken}
 use Rattle.sbp_world.proofs.Lists.RunSites.{site_after}
 use Rattle.sbp_world.proofs.Lists.Sites.{Site}
 

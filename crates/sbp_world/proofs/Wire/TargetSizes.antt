@@ -1,11 +1,7 @@
 -- No call of the target changes how many units it has.
-use Rattle.std.proofs.Common.{◌≡◌, ◌∙◌, ℕ, List, length, Option}
-use Rattle.async_packet.specs.Labels.{LabelParts}
-use Rattle.rbc_disk.specs.Runs.{Told}
-use Rattle.sbp_target.specs.Histories.Moves.{Moves, free}
-use Rattle.sbp_target.specs.Nodes.{Scene}
-use Rattle.sbp_target.specs.Receiving.{expired, received, seen, ticked}
-use Rattle.sbp_target.specs.Replies.{Whole, scene_of}
+use Rattle.sbp_world.proofs.Words.Std.{◌≡◌, ◌∙◌, ℕ, List, length, Option}
+use Rattle.sbp_world.proofs.Words.Wire.{LabelParts}
+use Rattle.sbp_world.proofs.Words.Target.{Told, Moves, free, Scene, expired, received, seen, ticked, Whole, scene_of}
 use Rattle.sbp_target.proofs.Histories.Views.{node_left}
 use Rattle.sbp_target.proofs.Histories.Views as moves
 

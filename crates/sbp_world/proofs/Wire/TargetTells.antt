@@ -1,12 +1,8 @@
 -- The target tells no note in its own words.
-use Rattle.std.proofs.Common.{ℕ, List, Option}
-use Rattle.async_packet.specs.Labels.{LabelParts}
-use Rattle.rbc_disk.specs.Runs.{Told}
-use Rattle.sbp_journal.specs.declared.side.Side.{Side}
-use Rattle.sbp_target.specs.Histories.Moves.{Moves, Tells, announced, back, cleared, departed, died, ended, failed, free, held, lapsed, managed, opened, plain, ran, unsent, was_cut}
-use Rattle.sbp_target.specs.Nodes.{Scene}
-use Rattle.sbp_target.specs.Receiving.{expired, received, seen, ticked}
-use Rattle.sbp_target.specs.Replies.{Whole, scene_of}
+use Rattle.sbp_world.proofs.Words.Std.{ℕ, List, Option}
+use Rattle.sbp_world.proofs.Words.Wire.{LabelParts, Side}
+use Rattle.sbp_world.proofs.Words.Target.{Told, Moves, Tells, announced, back, cleared, departed, died, ended, failed, free, lapsed, managed, opened, plain, ran, unsent, was_cut, Scene, expired, received, seen, ticked, Whole, scene_of}
+use Rattle.sbp_target.specs.Histories.Moves.{held}
 use Rattle.sbp_target.proofs.Histories.Views.{sides_kept}
 use Rattle.sbp_target.proofs.Histories.Views as moves
 use Rattle.sbp_world.proofs.Wire.Effects.{AreOtherSides, IsOtherSide, more_others}

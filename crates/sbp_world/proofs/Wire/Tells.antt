@@ -1,27 +1,13 @@
 -- What is told of other things than the wire, and the lines that begin.
+use Rattle.sbp_world.proofs.Words.Std.{sym, ◌∙◌, ap}
+use Rattle.sbp_world.proofs.Words.Wire.{May, is_plain, is_reset, Move, tell, start, moved, ArePlainSides, IsPlainSide, Due, Node, Moment, asked, said, Terms, terms, opened, Event, Note, Side, ListLoad, Holder, topology_at, counted}
+use Rattle.sbp_world.proofs.Words.World.{told, told_all, WorldState, with_note, without_notes, IsWireAt, Stands, StandsAt}
 use Rattle.std.specs.Prelude.{◌≡◌, ℕ, Bool, true, false, List, [], ◌∷◌, ◌++◌, map, Option, refl}
-use Rattle.std.proofs.Common.{sym, ◌∙◌, ap}
-use Rattle.bus_transactions.specs.May.{May, is_plain, is_reset}
-use Rattle.bus_transactions.specs.Moves.{Move, tell, start, moved}
-use Rattle.bus_transactions.specs.Steps.{ArePlainSides, IsPlainSide}
-use Rattle.bus_transactions.specs.Wire.{Due, Node}
 use Rattle.bus_transactions.proofs.MoveOthers.{plain_terms}
 use Rattle.bus_transactions.proofs.Reaches.{goes_on}
-use Rattle.sbp_journal.specs.Run.{Moment, asked, said}
-use Rattle.sbp_journal.specs.Wire.{Terms, terms, opened}
-use Rattle.sbp_journal.specs.declared.event.Event.{Event}
 use Rattle.sbp_journal.specs.declared.event.Event.TheVariants as events
-use Rattle.sbp_journal.specs.declared.note.Note.{Note}
-use Rattle.sbp_journal.specs.declared.side.Side.{Side}
 use Rattle.sbp_journal.specs.declared.side.Side.TheVariants as sides
-use Rattle.sbp_bus.specs.declared.loads.ListLoad.{ListLoad}
-use Rattle.sbp_bus.specs.declared.places.Holder.{Holder}
-use Rattle.sbp_bus.specs.Generations.{topology_at}
-use Rattle.sbp_bus.specs.Telling.{counted}
-use Rattle.sbp_world.specs.Telling.{told, told_all}
-use Rattle.sbp_world.specs.Worlds.{WorldState, with_note, without_notes}
 use Rattle.sbp_world.proofs.Wire.Agrees.{opened_agrees, plain_agrees, still_knows}
-use Rattle.sbp_world.specs.Wire.Wires.{IsWireAt, Stands, StandsAt}
 use Rattle.sbp_world.proofs.Wire.Entered.{entered_by}
 
 -- one move leads on

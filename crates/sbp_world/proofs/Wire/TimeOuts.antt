@@ -1,33 +1,14 @@
 -- The line of a time-out: the request that is found times out at its sender, or the line is refused.
-use Rattle.std.specs.Prelude.{◌≡◌, ◌≤◌, ◌<◌, ℕ, suc, Bool, false, List, length, slice_set, Option, Some, Result, Ok, Err, refl}
-use Rattle.std.proofs.Common.{arith, sym, ◌∙◌, ap, subst}
-use Rattle.std.proofs.lemmas.List.{length-set, set-get_or}
-use Rattle.label_table.specs.declared.reply.Stale.{Stale}
-use Rattle.label_table.specs.Layer.{Layer, expiring_step}
-use Rattle.bus_transactions.specs.Bare.{bare}
-use Rattle.bus_transactions.specs.Fitting.{AreSmall}
-use Rattle.bus_transactions.specs.Steps.{ArePlainSides, IsExpiry}
-use Rattle.bus_transactions.specs.Wire.{id_for}
-use Rattle.sbp_journal.specs.Run.{Moment}
-use Rattle.sbp_journal.specs.Outgoings.{OutboxState, empty_outbox}
-use Rattle.sbp_journal.specs.Wire.{terms}
+use Rattle.sbp_world.proofs.Words.Std.{slice_set, arith, sym, ◌∙◌, ap, subst, set-get_or}
+use Rattle.sbp_world.proofs.Words.Wire.{Stale, Layer, expiring_step, bare, AreSmall, ArePlainSides, IsExpiry, id_for, Moment, OutboxState, empty_outbox, terms, Request, id_of, topology_at, no_packet, find}
+use Rattle.sbp_world.proofs.Words.Target.{NodeState, expired, expired_in, Purpose}
+use Rattle.sbp_world.proofs.Words.Initiator.{Turn, new_state, expire_step, expired_as, OwnPurpose, InitiatorState}
+use Rattle.sbp_world.proofs.Words.World.{at_initiator, refused, target_expired, target_left, timed_out, WorldState, initiator_at, with_initiator, with_note, with_target, Stands, layer_in, layers_of}
+use Rattle.std.specs.Prelude.{◌≡◌, ◌≤◌, ◌<◌, ℕ, suc, Bool, false, List, length, Option, Some, Result, Ok, Err, refl}
+use Rattle.std.proofs.lemmas.List.{length-set}
 use Rattle.sbp_journal.specs.declared.note.Note.TheVariants as notes
-use Rattle.sbp_initiator.specs.Effects.{Turn}
-use Rattle.sbp_initiator.specs.Initiators.{new_state}
-use Rattle.sbp_initiator.specs.Receiving.{expire_step, expired_as}
-use Rattle.sbp_initiator.specs.declared.purpose.Purpose.{Purpose as OwnPurpose}
-use Rattle.sbp_initiator.specs.declared.state.InitiatorState.{InitiatorState}
-use Rattle.sbp_target.specs.Nodes.{NodeState}
 use Rattle.sbp_target.specs.Nodes as target
-use Rattle.sbp_target.specs.Receiving.{expired, expired_in}
-use Rattle.sbp_target.specs.declared.purpose.Purpose.{Purpose}
-use Rattle.sbp_bus.specs.declared.requests.Request.{Request}
-use Rattle.sbp_bus.specs.Generations.{id_of, topology_at}
-use Rattle.sbp_bus.specs.Packets.{no_packet}
-use Rattle.sbp_world.specs.Packets.{at_initiator, at_target, refused, target_expired, target_left, timed_out}
-use Rattle.sbp_bus.specs.Requests.{find}
-use Rattle.sbp_world.specs.Worlds.{WorldState, initiator_at, with_initiator, with_note, with_target}
-use Rattle.sbp_world.specs.Wire.Wires.{Stands, layer_in, layers_of}
+use Rattle.sbp_world.specs.Packets.{at_target}
 use Rattle.sbp_world.proofs.Wire.Bus.{refuses}
 use Rattle.sbp_world.proofs.Wire.Expires.{expiry_goes, latest, stale_same}
 use Rattle.sbp_world.proofs.Wire.Found.{IsKnown, id_known}

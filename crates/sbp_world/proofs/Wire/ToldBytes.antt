@@ -1,33 +1,13 @@
 -- What the commands of a line told is bytes, as the line's own condition on it says.
+use Rattle.sbp_world.proofs.Words.Std.{AllByRecursion, arith, sym, subst}
+use Rattle.sbp_world.proofs.Words.Wire.{LabelParts, header_in, Finding, of_generation, of_grammar, of_label, of_response, of_again, of_request, Sent, found_sent, AreBytes, Event}
+use Rattle.sbp_world.proofs.Words.Target.{Which, Login, Outcome, Told, told_in, Purpose, which_in, desk_at, TellsAt, TellsIn, answer_in, Stage, TellsBy, Whole, agent_step, served_login, stage}
+use Rattle.sbp_world.proofs.Words.Initiator.{Answer}
+use Rattle.sbp_world.proofs.Words.World.{MayAt, MayReceive, MayTell, MayTold, faults_after, judged_target, MayHappen, MayTellIn, MayIf, is_in_flight, may_repeat, MayAll, MayNext, after_all, lowest, Scene, begun, BytesTold}
 use Rattle.std.specs.Prelude.{◌≡◌, ◌<◌, ℕ, zero, suc, nat_eq, Bool, true, false, List, [], ◌∷◌, Option, Some, None}
-use Rattle.std.specs.List.{AllByRecursion}
-use Rattle.std.proofs.Common.{arith, sym, subst}
-use Rattle.async_packet.specs.Labels.{LabelParts}
-use Rattle.async_packet.specs.Packet.{header_in}
-use Rattle.command_agent.specs.declared.step.Which.{Which}
-use Rattle.label_table.specs.Layer.{Finding, of_generation, of_grammar, of_label, of_response, of_again, of_request}
-use Rattle.login_table.specs.declared.login.Login.{Login}
-use Rattle.orb_layout.specs.Replies.{Answer}
-use Rattle.packet_store.specs.declared.sent.Sent.{Sent}
-use Rattle.packet_store.specs.Kept.{found_sent}
-use Rattle.rbc_disk.specs.declared.command.Outcome.{Outcome}
-use Rattle.rbc_disk.specs.Runs.{Told, told_in}
-use Rattle.bus_transactions.specs.Fitting.{AreBytes}
-use Rattle.sbp_journal.specs.declared.event.Event.{Event}
 use Rattle.sbp_journal.specs.declared.event.Event.TheVariants as events
-use Rattle.sbp_target.specs.declared.purpose.Purpose.{Purpose}
 use Rattle.sbp_target.specs.declared.purpose.Purpose.TheVariants as purposes
-use Rattle.sbp_target.specs.Desks.{which_in}
-use Rattle.sbp_target.specs.Nodes.{desk_at}
-use Rattle.sbp_target.specs.Receiving.{TellsAt, TellsIn, answer_in}
-use Rattle.sbp_target.specs.Replies.{Stage, TellsBy, Whole, agent_step, served_login, stage}
-use Rattle.sbp_world.specs.Delivering.{MayAt, MayReceive, MayTell, MayTold, faults_after, judged_target}
-use Rattle.sbp_world.specs.Lines.{MayHappen, MayTellIn}
-use Rattle.sbp_world.specs.Packets.{MayIf, is_in_flight, may_repeat}
-use Rattle.sbp_world.specs.Settling.{MayAll, MayNext, after_all, lowest}
 use Rattle.sbp_world.specs.Settling as settling
-use Rattle.sbp_world.specs.Worlds.{Scene, begun}
-use Rattle.sbp_world.specs.FitTarget.{BytesTold}
 
 -- what each command of a line told
 abbrev pub AreTold : List (Option Told) → Type 0

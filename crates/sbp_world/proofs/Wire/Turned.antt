@@ -1,36 +1,18 @@
 -- A delivery, a time-out, a sight and a second: one note, and behind it effects.
-use Rattle.std.proofs.Common.{◌≡◌, refl, sym, ap, subst, ℕ, ◌-◌, ◌≤◌, ◌==◌, nat_lt, nat_eq, Bool, true, false, cond, List, ◌∷◌, ◌++◌, length, slice_index_or, Option, Some, None, Result, Ok, Err, arith}
-use Rattle.label_table.specs.declared.reply.Stale.{Stale}
-use Rattle.packet_store.specs.declared.sent.Sent.{Sent}
-use Rattle.packet_store.specs.Kept.{found_sent}
-use Rattle.rbc_disk.specs.Held.{Held}
-use Rattle.rbc_disk.specs.Runs.{Told}
-use Rattle.sbp_initiator.specs.declared.state.InitiatorState.{InitiatorState}
-use Rattle.sbp_initiator.specs.Initiators.{new_state}
-use Rattle.sbp_initiator.specs.Receiving.{expire_step, receive_step}
-use Rattle.sbp_initiator.specs.Seeing.{see_step}
-use Rattle.sbp_journal.specs.declared.cause.Judged.{Judged}
+use Rattle.sbp_world.proofs.Words.Std.{◌≡◌, refl, sym, ap, subst, ℕ, ◌-◌, ◌≤◌, ◌==◌, nat_lt, nat_eq, Bool, true, false, cond, List, ◌∷◌, ◌++◌, length, Option, Some, None, Result, Ok, Err, arith}
+use Rattle.sbp_world.proofs.Words.Wire.{Stale, Sent, found_sent, Judged, Note, OutboxState, empty_outbox, Request, judged_note, no_packet, id_of}
+use Rattle.sbp_world.proofs.Words.Target.{Held, Told, NodeState, expired, received, seen, ticked, Whole}
+use Rattle.sbp_world.proofs.Words.Initiator.{InitiatorState, new_state, expire_step, receive_step, see_step}
+use Rattle.sbp_world.proofs.Words.Laws.{AreEffects}
+use Rattle.sbp_world.proofs.Words.World.{Arrival, arrived, arrived_by, at_none, at_target, delivered, delivered_by, faults_after, initiator_received, initiators_received, left_target, listed, marked, received_by, received_step, target_received, whole_of, handed_out, handed_all, initiator_learns, see_line, sees, target_learns, target_sees, target_ticks, tick_line, told_seen, with_seen, expires, initiator_expires, target_expired, target_left, Scene, WorldState, initiator_at, with_note}
+use Rattle.std.proofs.Common.{slice_index_or}
 use Rattle.sbp_journal.specs.declared.cause.Judged.TheVariants as judgements
-use Rattle.sbp_journal.specs.declared.note.Note.{Note}
 use Rattle.sbp_journal.specs.declared.note.Note.TheVariants as notes
-use Rattle.sbp_journal.specs.Outgoings.{OutboxState, empty_outbox}
 use Rattle.sbp_laws.specs.Deliveries as laws
-use Rattle.sbp_laws.specs.Deliveries.{AreEffects}
-use Rattle.sbp_target.specs.Nodes.{NodeState}
 use Rattle.sbp_target.specs.Nodes as target
-use Rattle.sbp_target.specs.Receiving.{expired, received, seen, ticked}
-use Rattle.sbp_target.specs.Replies.{Whole}
-use Rattle.sbp_world.specs.declared.parts.delivering.Arrival.{Arrival}
-use Rattle.sbp_bus.specs.declared.requests.Request.{Request}
-use Rattle.sbp_bus.specs.Packets.{judged_note, no_packet}
-use Rattle.sbp_world.specs.Delivering.{arrived, arrived_by, at_initiator, at_none, at_target, delivered, delivered_by, faults_after, initiator_received, initiators_received, left_target, listed, marked, received_by, received_step, target_received, whole_of}
-use Rattle.sbp_bus.specs.Generations.{id_of}
-use Rattle.sbp_world.specs.Handing.{handed_out}
-use Rattle.sbp_world.specs.Nodes.{handed_all, initiator_learns, see_line, sees, target_learns, target_sees, target_ticks, tick_line, told_seen, with_seen}
+use Rattle.sbp_world.specs.Delivering.{at_initiator}
 use Rattle.sbp_world.specs.Nodes as nodes
 use Rattle.sbp_world.specs.Packets as packets
-use Rattle.sbp_world.specs.Packets.{expires, initiator_expires, target_expired, target_left}
-use Rattle.sbp_world.specs.Worlds.{Scene, WorldState, initiator_at, with_note}
 use Rattle.sbp_world.proofs.Wire.Effects.{AreEffectSides, others_effects}
 use Rattle.sbp_world.proofs.Wire.Gains.{Gains, hands_out}
 use Rattle.sbp_world.proofs.Wire.OwnTells as own

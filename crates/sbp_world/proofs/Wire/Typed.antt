@@ -1,17 +1,9 @@
 -- A run whose notes are inside the types of their fields has the part of the laws that is of the bus, with notes that their text determines.
-use Rattle.std.proofs.Common.{ℕ, ◌≤◌, ◌<◌, ◌^◌, List, [], ◌∷◌, ◌++◌, map, arith}
-use Rattle.std.specs.List.{AllByRecursion}
-use Rattle.sbp_journal.specs.Run.{Moment, said, history}
-use Rattle.sbp_journal.specs.Written.{IsTyped}
-use Rattle.sbp_journal.specs.declared.note.Note.{Note}
-use Rattle.sbp_laws.specs.Lawful.{injectors}
-use Rattle.sbp_laws.specs.OnTheBus.{FormedOnTheBus, IsTypedAt, LawfulOnTheBus}
-use Rattle.sbp_laws.specs.Turns.{EachMoment}
+use Rattle.sbp_world.proofs.Words.Std.{ℕ, ◌≤◌, ◌<◌, ◌^◌, List, [], ◌∷◌, ◌++◌, map, arith, AllByRecursion}
+use Rattle.sbp_world.proofs.Words.Wire.{Moment, said, history, IsTyped, Note}
+use Rattle.sbp_world.proofs.Words.Laws.{injectors, FormedOnTheBus, IsTypedAt, LawfulOnTheBus, EachMoment}
+use Rattle.sbp_world.proofs.Words.World.{AreTyped, history_of, Entry, Run, journal_entries, journal_run}
 use Rattle.sbp_laws.proofs.Parts.{part_of_lawful}
-use Rattle.sbp_world.specs.Forms.{AreTyped}
-use Rattle.sbp_world.specs.Histories.{history_of}
-use Rattle.sbp_world.specs.Runs.{Entry, Run}
-use Rattle.sbp_world.specs.Wire.Journal.{journal_entries, journal_run}
 
 typed_notes : (notes : List Note) (past : List Moment) → AllByRecursion IsTyped notes → EachMoment IsTypedAt past → EachMoment IsTypedAt (map said notes ++ past)
 typed_notes [] past t e = e

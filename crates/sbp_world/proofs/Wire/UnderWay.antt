@@ -1,38 +1,18 @@
 -- A transaction that times out at its sender is under way, by what the history says.
-use Rattle.std.specs.Prelude.{◌≡◌, ◌≤◌, ◌<◌, ℕ, zero, suc, ◌-◌, ◌==◌, ◌&&◌, nat_eq, nat_lt, is_ok, Bool, true, false, if◌then◌else◌, List, length, Option, Some, Result, Ok, Err, refl}
-use Rattle.std.proofs.Common.{arith, sym, ◌∙◌, ap, subst}
-use Rattle.async_packet.specs.Labels.{LabelParts}
+use Rattle.sbp_world.proofs.Words.Std.{is_ok, if◌then◌else◌, arith, sym, ◌∙◌, ap, subst}
+use Rattle.sbp_world.proofs.Words.Wire.{LabelParts, ReplyKind, Stale, Layer, expiring_step, state_for, bare, bare_after, bare_result, IsAwaited, awaits, shape, shape_of, Node, id_for, transaction, empty_outbox, Moment, Kind, Sending, Transaction, Held, Terms, begun_in, free, rests, terms, waits, Request, id_of, topology_at, find}
+use Rattle.sbp_world.proofs.Words.Target.{Purpose, NodeState, expired, expired_in}
+use Rattle.sbp_world.proofs.Words.Initiator.{expire_step, expired_as, OwnPurpose, InitiatorState}
+use Rattle.sbp_world.proofs.Words.World.{at_initiator, initiator_expires, target_expired, target_left, WorldState, initiator_at, Stands, layer_in, layers_of}
+use Rattle.std.specs.Prelude.{◌≡◌, ◌≤◌, ◌<◌, ℕ, zero, suc, ◌-◌, ◌==◌, ◌&&◌, nat_eq, nat_lt, Bool, true, false, List, length, Option, Some, Result, Ok, Err, refl}
 use Rattle.label_table.specs.declared.place.LabelState.TheVariants as states
-use Rattle.label_table.specs.declared.reply.ReplyKind.{ReplyKind}
-use Rattle.label_table.specs.declared.reply.Stale.{Stale}
-use Rattle.label_table.specs.Layer.{Layer, expiring_step}
-use Rattle.label_table.specs.Peers.{state_for}
-use Rattle.bus_transactions.specs.Bare.{bare, bare_after, bare_result}
-use Rattle.bus_transactions.specs.Reached.{IsAwaited}
-use Rattle.bus_transactions.specs.Rows.{awaits, shape, shape_of}
-use Rattle.bus_transactions.specs.Wire.{Node, id_for, transaction}
 use Rattle.bus_transactions.proofs.Bares.{takes_steps}
 use Rattle.bus_transactions.proofs.Reaches.{goes_on}
 use Rattle.bus_transactions.proofs.Steps.{ExpiredAs, expires}
-use Rattle.sbp_initiator.specs.Receiving.{expire_step, expired_as}
-use Rattle.sbp_initiator.specs.declared.purpose.Purpose.{Purpose as OwnPurpose}
-use Rattle.sbp_initiator.specs.declared.state.InitiatorState.{InitiatorState}
-use Rattle.sbp_journal.specs.Outgoings.{empty_outbox}
-use Rattle.sbp_journal.specs.Run.{Moment}
-use Rattle.sbp_journal.specs.Transactions.{Kind, Sending, Transaction}
-use Rattle.sbp_journal.specs.Wire.{Held, Terms, begun_in, free, rests, terms, waits}
 use Rattle.sbp_laws.specs.Packets as laws
-use Rattle.sbp_target.specs.declared.purpose.Purpose.{Purpose}
-use Rattle.sbp_target.specs.Nodes.{NodeState}
 use Rattle.sbp_target.specs.Nodes as target
-use Rattle.sbp_target.specs.Receiving.{expired, expired_in}
-use Rattle.sbp_bus.specs.declared.requests.Request.{Request}
-use Rattle.sbp_bus.specs.Generations.{id_of, topology_at}
-use Rattle.sbp_world.specs.Packets.{at_initiator, at_target, initiator_expires, target_expired, target_left}
+use Rattle.sbp_world.specs.Packets.{at_target}
 use Rattle.sbp_world.specs.Packets as packets
-use Rattle.sbp_bus.specs.Requests.{find}
-use Rattle.sbp_world.specs.Worlds.{WorldState, initiator_at}
-use Rattle.sbp_world.specs.Wire.Wires.{Stands, layer_in, layers_of}
 use Rattle.sbp_world.proofs.Wire.Asks.{own_layer}
 use Rattle.sbp_world.proofs.Wire.Bus.{holds}
 use Rattle.sbp_world.proofs.Wire.Expires.{Aims, latest}

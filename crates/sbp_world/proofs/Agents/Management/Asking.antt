@@ -1,40 +1,24 @@
 -- What the management operation asks for leaves where it finds a label, and else the operation ends.
-use Rattle.std.proofs.Common.{◌≡◌, ◌∙◌, refl, sym, ap, subst, ℕ, is_some, true, false, List, [], ◌∷◌, ◌++◌, Option, Some, None}
-use Rattle.async_packet.specs.Packet.{Packet, header_in}
-use Rattle.label_table.specs.declared.judgement.Asked.{Asked}
-use Rattle.label_table.specs.Bodies.{Body}
-use Rattle.label_table.specs.Layer.{Layer, asking_step}
-use Rattle.login_table.specs.Sound.{IsSound}
-use Rattle.login_table.specs.Table.{Table}
-use Rattle.mgmt_agent.specs.declared.decision.ManagerStep.{ManagerStep}
-use Rattle.mgmt_agent.specs.declared.operation.Operation.{Operation}
+use Rattle.sbp_world.proofs.Words.Std.{◌≡◌, ◌∙◌, refl, sym, ap, subst, ℕ, is_some, true, false, List, [], ◌∷◌, ◌++◌, Option, Some, None}
+use Rattle.sbp_world.proofs.Words.Wire.{Packet, header_in, Asked, Body, Layer, asking_step, Outgoing, OutboxState}
+use Rattle.sbp_world.proofs.Words.Target.{IsSound, Table, ManagerStep, Operation, Purpose, ask_manager, failed_by, lose_operation, lost_in, manage, managed_in, managed_with, manager_asked, manager_body, manager_lost, manager_sent, with_manager, answered, start, target_started, NodeState, Scene, scene, request_step, sent_by, request, free, stay, still}
+use Rattle.sbp_world.proofs.Words.Initiator.{Ask, FailCause, Answer, NoLabel}
+use Rattle.sbp_world.proofs.Words.World.{Agrees, Office, replied, started, started_by, stepped}
 use Rattle.mgmt_agent.specs.declared.operation.Phase.{Phase}
 use Rattle.mgmt_agent.specs.declared.operation.Phase.TheVariants as phases
 use Rattle.mgmt_agent.specs.Machine as management
-use Rattle.orb_layout.specs.declared.ask.Ask.{Ask}
 use Rattle.orb_layout.specs.declared.ask.Ask.TheVariants as ask
-use Rattle.orb_layout.specs.declared.ask.FailCause.{FailCause}
 use Rattle.orb_layout.specs.declared.ask.FailCause.TheVariants as causes
-use Rattle.orb_layout.specs.Replies.{Answer, NoLabel}
-use Rattle.sbp_journal.specs.declared.outbox.Outgoing.{Outgoing}
 use Rattle.sbp_journal.specs.declared.side.Side.TheVariants as sides
-use Rattle.sbp_journal.specs.Outgoings.{OutboxState}
-use Rattle.sbp_target.specs.declared.purpose.Purpose.{Purpose}
 use Rattle.sbp_target.specs.declared.purpose.Purpose.TheVariants as purposes
-use Rattle.sbp_target.specs.Management.{ask_manager, failed_by, lose_operation, lost_in, manage, managed_in, managed_with, manager_asked, manager_body, manager_lost, manager_sent, with_manager}
 use Rattle.sbp_target.specs.Management as target
-use Rattle.sbp_target.specs.Serving.{answered, start, started_by as target_started}
-use Rattle.sbp_target.specs.Nodes.{NodeState, Scene, scene}
-use Rattle.sbp_target.specs.Sending.{request_step, sent_by}
 use Rattle.sbp_target.proofs.Histories.Managing.{unlabelled}
 use Rattle.sbp_target.proofs.Histories.Primitives.{none_known}
 use Rattle.sbp_target.proofs.Histories.Seats.{Lives}
-use Rattle.sbp_target.specs.Histories.Layers.{request}
 use Rattle.sbp_world.proofs.Agents.Management.Calm.{AreQuiet, Calm, From, answers}
 use Rattle.sbp_world.proofs.Agents.Management.Deciding.{by_decision, reply_steps}
 use Rattle.sbp_world.proofs.Agents.Management.Managing.{FailsClean, Says, decision_stands, failed_if, failing_stands, fails_clean, quiet_says, says_more}
-use Rattle.sbp_world.specs.Agents.Management.Offices.{Agrees, Office, failed, replied, started, started_by, stepped}
-use Rattle.sbp_target.specs.Histories.Moves.{free, stay, still}
+use Rattle.sbp_world.specs.Agents.Management.Offices.{failed}
 use Rattle.sbp_target.proofs.Histories.Moved.{manage_moves, start_moves}
 use Rattle.sbp_target.proofs.Histories.Views.{acts, asked, ends, node_left}
 

@@ -1,27 +1,15 @@
 -- The request of the operation stays the one that the terms have, and a new one becomes it.
-use Rattle.std.proofs.Common.{◌≡◌, ◌∙◌, refl, sym, ap, subst, ℕ, false, Option, Some, None}
-use Rattle.async_packet.specs.Labels.{LabelParts}
-use Rattle.bus_transactions.specs.Wire.{transaction}
-use Rattle.label_table.specs.declared.reply.ReplyKind.{ReplyKind}
-use Rattle.label_table.specs.declared.judgement.Asked.{Asked}
-use Rattle.label_table.specs.Bodies.{Body}
-use Rattle.label_table.specs.Layer.{Layer, asking_step}
-use Rattle.label_table.specs.Peers.{purpose_for, state_for}
+use Rattle.sbp_world.proofs.Words.Std.{◌≡◌, ◌∙◌, refl, sym, ap, subst, ℕ, false, Option, Some, None}
+use Rattle.sbp_world.proofs.Words.Wire.{LabelParts, transaction, ReplyKind, Asked, Body, Layer, asking_step, purpose_for, state_for, under_way, Kind, is_same_kind, locking, Terms, waits}
+use Rattle.sbp_world.proofs.Words.Target.{source_in, Purpose, NodeState, IsUnderWay, TransactionLaw}
+use Rattle.sbp_world.proofs.Words.World.{Awaits, HasRequest}
 use Rattle.label_table.specs.History as wire
-use Rattle.label_table.specs.History.{under_way}
 use Rattle.label_table.proofs.Calls.{after_kept}
 use Rattle.mgmt_agent.specs.Machine as management
-use Rattle.mgmt_agent.specs.Machine.{source_in}
-use Rattle.sbp_journal.specs.Transactions.{Kind, is_same_kind, locking}
-use Rattle.sbp_journal.specs.Wire.{Terms, waits}
-use Rattle.sbp_target.specs.declared.purpose.Purpose.{Purpose}
 use Rattle.sbp_target.specs.declared.purpose.Purpose.TheVariants as purposes
-use Rattle.sbp_target.specs.Nodes.{NodeState}
-use Rattle.sbp_target.specs.Histories.Transactions.{IsUnderWay, TransactionLaw}
 use Rattle.sbp_target.proofs.Histories.Calling.{Good}
 use Rattle.sbp_target.proofs.Histories.Primitives.{Known, asks_known, began_at}
 use Rattle.sbp_target.proofs.Histories.Seats.{Lives}
-use Rattle.sbp_world.specs.Agents.Management.Terms.{Awaits, HasRequest}
 use Rattle.sbp_world.proofs.Agents.Management.Calm.{ForManager, From}
 
 -- ---- what the lives say of a label, and a label of a life

@@ -1,23 +1,15 @@
 -- A new world: the terms of the target's management are its state.
-use Rattle.std.proofs.Common.{arith, ◌≡◌, ◌∙◌, refl, sym, ap, subst, ℕ, zero, suc, ◌+◌, ◌<◌, ◌≤◌, Bool, true, false, List, [], ◌∷◌, map, length, replicate}
-use Rattle.std.proofs.lemmas.List.{get_or-replicate}
-use Rattle.sbp_world.specs.FitInitiator.{Holds as OwnHolds}
+use Rattle.sbp_world.proofs.Words.Std.{arith, ◌≡◌, ◌∙◌, refl, sym, ap, subst, ℕ, zero, suc, ◌+◌, ◌<◌, ◌≤◌, Bool, true, false, List, [], ◌∷◌, map, length, replicate, get_or-replicate}
+use Rattle.sbp_world.proofs.Words.Wire.{Moment, asked, local_id, Topology, first_topology, id_of, no_topology}
+use Rattle.sbp_world.proofs.Words.Target.{enter_step, fresh_id, left_for, new_table, Disk, ready_from}
+use Rattle.sbp_world.proofs.Words.Initiator.{new_state, InitiatorState}
+use Rattle.sbp_world.proofs.Words.Laws.{first_table}
+use Rattle.sbp_world.proofs.Words.World.{OwnHolds, new_initiators, new_world, ready_logins}
 use Rattle.sbp_world.proofs.FitInitiator.Law.{fitting_law as own_fitting_law}
-use Rattle.login_table.specs.Table.{enter_step, fresh_id, left_for, new_table}
-use Rattle.rbc_disk.specs.Disk.{Disk}
-use Rattle.sbp_initiator.specs.Initiators.{new_state}
-use Rattle.sbp_initiator.specs.declared.state.InitiatorState.{InitiatorState}
-use Rattle.sbp_journal.specs.Run.{Moment, asked}
-use Rattle.sbp_journal.specs.Wire.{local_id}
 use Rattle.sbp_journal.specs.declared.event.Event.TheVariants as events
-use Rattle.sbp_laws.specs.Targets.{first_table}
-use Rattle.target_base.specs.Beginning.{ready_from}
 use Rattle.target_base.proofs.Making.{rom_size}
 use Rattle.sbp_bus.proofs.Making.{ids_size}
 use Rattle.sbp_world.proofs.Making.{initiators_size}
-use Rattle.sbp_bus.specs.declared.generations.Topology.{Topology}
-use Rattle.sbp_bus.specs.Generations.{first_topology, id_of, no_topology}
-use Rattle.sbp_world.specs.Making.{new_initiators, new_world, ready_logins}
 use Rattle.sbp_world.proofs.FitTarget.Law.{fitting_law}
 use Rattle.sbp_world.proofs.Wire.Found.{known_has}
 use Rattle.sbp_world.proofs.Wire.Holding.{NodesOf, TargetOf, of_target, own_has, seen_at, state_at, target_has}

@@ -1,50 +1,24 @@
 -- Each call of a target changes its management as its notes do.
-use Rattle.std.specs.Prelude.{slice_set}
-use Rattle.std.proofs.Common.{◌≡◌, ◌∙◌, refl, sym, ap, subst, ℕ, nat_lt, is_some, not, ◌&&◌, Bool, true, false, cond, List, [], length, Option, Some, None, Result, Ok, Err}
-use Rattle.async_packet.specs.Labels.{LabelParts}
-use Rattle.async_packet.specs.Packet.{Packet, header_in}
-use Rattle.label_table.specs.declared.reply.ReplyKind.{ReplyKind}
-use Rattle.label_table.specs.declared.reply.Stale.{Stale}
-use Rattle.label_table.specs.History.{Life, ended, is_same, not_begun, over, under_way}
+use Rattle.sbp_world.proofs.Words.Std.{slice_set, ◌≡◌, ◌∙◌, refl, sym, ap, subst, ℕ, nat_lt, is_some, not, ◌&&◌, Bool, true, false, cond, List, [], length, Option, Some, None, Result, Ok, Err}
+use Rattle.sbp_world.proofs.Words.Wire.{LabelParts, Packet, header_in, ReplyKind, Stale, Life, ended, not_begun, over, under_way, Finding, Layer, of_again, of_generation, of_grammar, of_label, of_request, of_response, expiring_step, judging_step, seeing_step, seen_in_generation, reply_kind, Judged, Outgoing, empty_outbox}
+use Rattle.sbp_world.proofs.Words.Target.{IsSound, Table, Operation, Disk, Told, Demand, Purpose, AgentRegister, demand_of, is_lock, offset_in, register_at, manage, NodeState, Scene, scene, answer_in, concluded, expired, expired_in, judged_scene, received, received_as, timed_out, with_layer, Sent, sent_to, is_sent_as, Whole, whole, is_barred_at, answered, is_barred, serve, served_as, start, target_started, after}
+use Rattle.sbp_world.proofs.Words.Initiator.{Answer, Expired}
+use Rattle.sbp_world.proofs.Words.World.{CallsKeep, ManagementLaw, demanded, lapsed, requested, Agrees, Office, replied, started, started_by}
+use Rattle.label_table.specs.History.{is_same}
 use Rattle.label_table.specs.History as wire
-use Rattle.label_table.specs.Layer.{Finding, Layer, of_again, of_generation, of_grammar, of_label, of_request, of_response, expiring_step, judging_step, seeing_step, seen_in_generation}
-use Rattle.label_table.specs.Requests.{reply_kind}
-use Rattle.login_table.specs.Sound.{IsSound}
-use Rattle.login_table.specs.Table.{Table}
-use Rattle.mgmt_agent.specs.declared.operation.Operation.{Operation}
 use Rattle.mgmt_agent.specs.Machine as management
-use Rattle.orb_layout.specs.Replies.{Answer, Expired}
-use Rattle.rbc_disk.specs.Disk.{Disk}
-use Rattle.rbc_disk.specs.Runs.{Told}
-use Rattle.sbp_journal.specs.declared.cause.Judged.{Judged}
 use Rattle.sbp_journal.specs.declared.cause.Cause.TheVariants as ignored
 use Rattle.sbp_journal.specs.declared.cause.Judged.TheVariants as judgements
-use Rattle.sbp_journal.specs.declared.outbox.Outgoing.{Outgoing}
-use Rattle.sbp_journal.specs.Outgoings.{empty_outbox}
-use Rattle.target_base.specs.declared.address.Demand.{Demand}
 use Rattle.target_base.specs.declared.address.Demand.TheVariants as demands
-use Rattle.sbp_target.specs.declared.purpose.Purpose.{Purpose}
 use Rattle.sbp_target.specs.declared.purpose.Purpose.TheVariants as purposes
-use Rattle.target_base.specs.declared.address.AgentRegister.{AgentRegister}
-use Rattle.target_base.specs.Addresses.{demand_of, is_lock, offset_in, register_at}
-use Rattle.sbp_target.specs.Management.{manage}
-use Rattle.sbp_target.specs.Nodes.{NodeState, Scene, scene}
-use Rattle.sbp_target.specs.Receiving.{answer_in, concluded, expired, expired_in, judged_scene, received, received_as, timed_out, with_layer}
-use Rattle.sbp_target.specs.declared.purpose.Sent.{Sent}
-use Rattle.sbp_target.specs.Agents.{sent_to}
-use Rattle.sbp_target.specs.Sending.{is_sent_as}
-use Rattle.sbp_target.specs.Replies.{Whole, whole}
-use Rattle.target_base.specs.Logins.{is_barred_at}
-use Rattle.sbp_target.specs.Serving.{answered, is_barred, request_step, serve, served_as, start, started_by as target_started}
-use Rattle.sbp_target.specs.Calls.{after}
+use Rattle.sbp_target.specs.Serving.{request_step}
 use Rattle.sbp_target.proofs.Histories.Calling.{Good, peer_of}
 use Rattle.sbp_target.proofs.Histories.Found.{IsFound, found}
 use Rattle.sbp_target.proofs.Histories.Primitives.{Known, closing_known, expiring_known, live_on, seeing_known, stale_known}
 use Rattle.sbp_target.proofs.Histories.Rested.{some_that}
 use Rattle.sbp_target.proofs.Histories.Seats.{Lives, sent_is, sent_self}
 use Rattle.sbp_target.proofs.Histories.Settled.{all_good}
-use Rattle.sbp_world.specs.Agents.Management.Calls.{CallsKeep, Follows, ManagementLaw, delivered, demanded, lapsed, requested}
-use Rattle.sbp_world.specs.Agents.Management.Offices.{Agrees, Office, replied, started, started_by}
+use Rattle.sbp_world.specs.Agents.Management.Calls.{Follows, delivered}
 use Rattle.sbp_world.proofs.Agents.Management.Asking.{Turned, manage_rom, replied_turn, start_rcode, start_rom, started_turn}
 use Rattle.sbp_world.proofs.Agents.Management.Calm.{Calm, ForManager, From, accesses_by, answers, expires_agent, replies}
 use Rattle.sbp_world.proofs.Agents.Management.Managing.{quiet_says}

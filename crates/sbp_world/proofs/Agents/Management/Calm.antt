@@ -1,32 +1,16 @@
 -- What an agent does leaves the management alone: it tells nothing of logins or of the operation, and no transaction is for the operation that was not before.
-use Rattle.std.proofs.Common.{◌≡◌, ◌≢◌, ◌∙◌, refl, ℕ, Bool, true, false, cond, List, [], ◌∷◌, ◌++◌, Option, Some, None}
-use Rattle.async_packet.specs.Labels.{LabelParts}
-use Rattle.async_packet.specs.Packet.{Packet}
-use Rattle.label_table.specs.declared.judgement.Asked.{Asked}
-use Rattle.label_table.specs.declared.reply.ReplyKind.{ReplyKind}
-use Rattle.label_table.specs.Bodies.{Body}
-use Rattle.label_table.specs.Layer.{Layer, asking_step, answering_step, disowning_step}
+use Rattle.sbp_world.proofs.Words.Std.{◌≡◌, ◌≢◌, ◌∙◌, refl, ℕ, Bool, true, false, cond, List, [], ◌∷◌, ◌++◌, Option, Some, None}
+use Rattle.sbp_world.proofs.Words.Wire.{LabelParts, Packet, Asked, ReplyKind, Body, Layer, asking_step, answering_step, disowning_step, Life, under_way, for_nobody, CutCause, Side}
+use Rattle.sbp_world.proofs.Words.Target.{Told, Access, Purpose, cut, clear_one, cut_placed, NodeState, Scene, expire_agent, Whole, replied_to, scene_of, accessed_by, answered, clear_from, cut_all, Asks, Kind, MayAct, Moves, Tells, announced, back, by_agent, by_disc, by_manager, cleared, departed, died, ended, failed, go_on, lapsed, managed, opened, plain, ran, stay, unsent, was_cut}
+use Rattle.sbp_world.proofs.Words.Initiator.{Answer}
 use Rattle.label_table.specs.History as wire
-use Rattle.label_table.specs.History.{Life, under_way, is_same, for_nobody}
-use Rattle.orb_layout.specs.Replies.{Answer}
-use Rattle.rbc_disk.specs.Runs.{Told}
-use Rattle.sbp_journal.specs.declared.cause.CutCause.{CutCause}
-use Rattle.sbp_journal.specs.declared.side.Side.{Side}
+use Rattle.label_table.specs.History.{is_same}
 use Rattle.sbp_journal.specs.declared.side.Side.TheVariants as sides
-use Rattle.target_base.specs.declared.address.Access.{Access}
-use Rattle.sbp_target.specs.declared.purpose.Purpose.{Purpose}
 use Rattle.sbp_target.specs.declared.purpose.Purpose.TheVariants as purposes
-use Rattle.sbp_target.specs.Agents.{cut}
-use Rattle.sbp_target.specs.Management.{clear_one, cut_placed}
-use Rattle.sbp_target.specs.Nodes.{NodeState, Scene}
-use Rattle.sbp_target.specs.Receiving.{expire_agent}
-use Rattle.sbp_target.specs.Replies.{Whole, replied_to, scene_of}
-use Rattle.sbp_target.specs.Serving.{accessed_by, answered}
-use Rattle.sbp_target.specs.Units.{clear_from, cut_all}
 use Rattle.sbp_target.proofs.Histories.Calling.{answer_known}
 use Rattle.sbp_target.proofs.Histories.Primitives.{Known, asks_known, disowns_known, live_on, nobody_is, none_known}
 use Rattle.sbp_target.proofs.Histories.Seats.{Lives}
-use Rattle.sbp_target.specs.Histories.Moves.{Asks, Kind, MayAct, Move, Moves, Tells, announced, back, by_agent, by_disc, by_manager, cleared, departed, died, ended, failed, go_on, held, lapsed, managed, opened, plain, ran, stay, unsent, was_cut}
+use Rattle.sbp_target.specs.Histories.Moves.{Move, held}
 use Rattle.sbp_target.specs.Histories.Moves as moves
 use Rattle.sbp_target.proofs.Histories.Moved.{access_moves, clear_from_moves, clear_one_moves, cut_all_moves, cut_placed_moves, expire_agent_moves, fits_at, replied_moves}
 use Rattle.sbp_target.proofs.Histories.Views.{Sends, node_left, packets_kept, sides_kept}

@@ -1,32 +1,14 @@
 -- A packet is delivered to the target: behind the turn its terms are again its state.
-use Rattle.std.proofs.Common.{arith, ◌≡◌, ◌≢◌, ◌∙◌, refl, sym, ap, subst, ℕ, nat_eq, Bool, true, false, List, Option, Some, None, Result, Ok}
-use Rattle.std.proofs.lemmas.Bool.Decides.{nat_tests}
-use Rattle.async_packet.specs.declared.fault.PacketFault.{PacketFault}
-use Rattle.async_packet.specs.Labels.{LabelParts}
-use Rattle.async_packet.specs.Packet.{Packet, header_in}
-use Rattle.async_packet.specs.Reading.{reading}
-use Rattle.bus_transactions.specs.Wire.{as_sending, transaction}
+use Rattle.sbp_world.proofs.Words.Std.{arith, ◌≡◌, ◌≢◌, ◌∙◌, refl, sym, ap, subst, ℕ, nat_eq, Bool, true, false, List, Option, Some, None, Result, Ok, nat_tests}
+use Rattle.sbp_world.proofs.Words.Wire.{PacketFault, LabelParts, Packet, header_in, reading, as_sending, transaction, ReplyKind, under_way, Sent, found_sent, Moment, Kind, Sending, Transaction, begun_by, between, is_same, is_same_kind, locking, Terms, terms, waits}
+use Rattle.sbp_world.proofs.Words.Target.{source_in, Disk, Purpose, answer_in, IsUnderWay, TransactionLaw}
+use Rattle.sbp_world.proofs.Words.Laws.{is_serial}
+use Rattle.sbp_world.proofs.Words.World.{WorldState, Stands, Awaits, IsManagementAt}
 use Rattle.bus_transactions.proofs.PacketParts.{part_read, same_is}
 use Rattle.bus_transactions.proofs.Reaches.{goes_on}
-use Rattle.label_table.specs.declared.reply.ReplyKind.{ReplyKind}
-use Rattle.label_table.specs.History.{under_way}
-use Rattle.mgmt_agent.specs.Machine.{source_in}
-use Rattle.packet_store.specs.declared.sent.Sent.{Sent}
-use Rattle.packet_store.specs.Kept.{found_sent}
-use Rattle.rbc_disk.specs.Disk.{Disk}
-use Rattle.sbp_journal.specs.Run.{Moment}
-use Rattle.sbp_journal.specs.Transactions.{Kind, Sending, Transaction, begun_by, between, is_same, is_same_kind, locking}
-use Rattle.sbp_journal.specs.Wire.{Terms, terms, waits}
 use Rattle.sbp_laws.specs.Packets as laws
-use Rattle.sbp_laws.specs.Targets.{is_serial}
-use Rattle.sbp_target.specs.declared.purpose.Purpose.{Purpose}
 use Rattle.sbp_target.specs.declared.purpose.Purpose.TheVariants as purposes
-use Rattle.sbp_target.specs.Receiving.{answer_in}
-use Rattle.sbp_world.specs.Worlds.{WorldState}
-use Rattle.sbp_target.specs.Histories.Transactions.{IsUnderWay, TransactionLaw}
 use Rattle.sbp_target.proofs.Histories.Calling.{Good}
-use Rattle.sbp_world.specs.Wire.Wires.{Stands}
-use Rattle.sbp_world.specs.Agents.Management.Terms.{Awaits, IsManagementAt}
 use Rattle.sbp_world.proofs.Agents.Management.Awaiting.{under_for}
 use Rattle.sbp_world.proofs.Agents.Management.Hearing.{IsAnswer, same_answer}
 use Rattle.sbp_world.proofs.Agents.Management.Holding.{is_of, past_terms, same_id, was_sent}

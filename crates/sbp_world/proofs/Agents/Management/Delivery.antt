@@ -1,46 +1,18 @@
 -- A packet is delivered to the target, whatever it is found to be.
-use Rattle.std.proofs.Common.{arith, ◌≡◌, ◌≢◌, ◌∙◌, refl, sym, ap, subst, ℕ, ◌^◌, ◌<◌, ◌≤◌, ◌||◌, not, is_some, Bool, true, false, cond, List, [], ◌∷◌, length, Option, Some, None, Ok}
-use Rattle.async_packet.specs.Labels.{LabelParts}
-use Rattle.async_packet.specs.Packet.{Packet, header_in}
-use Rattle.async_packet.specs.Reading.{reading}
-use Rattle.bus_transactions.specs.Fitting.{AreBytes}
+use Rattle.sbp_world.proofs.Words.Std.{arith, ◌≡◌, ◌≢◌, ◌∙◌, refl, sym, ap, subst, ℕ, ◌^◌, ◌<◌, ◌≤◌, ◌||◌, not, is_some, Bool, true, false, cond, List, [], ◌∷◌, length, Option, Some, None, Ok}
+use Rattle.sbp_world.proofs.Words.Wire.{LabelParts, Packet, header_in, reading, AreBytes, ReplyKind, Finding, Layer, judging_step, of_again, of_generation, of_grammar, of_label, of_request, of_response, reply_kind, Sent, found_sent, is_flying, Moment, said, Terms, terms, Cause, Judged, Outgoing, empty_outbox, GenerationsState, node_of}
+use Rattle.sbp_world.proofs.Words.Target.{Disk, Held, Told, Purpose, demand_of, NodeState, Scene, scene, judged_scene, received, received_as, with_layer, Whole, whole, answered, is_barred, serve, TransactionLaw}
+use Rattle.sbp_world.proofs.Words.World.{marked, whole_of, WorldState, with_target, FitsManager, Stands, demanded, requested, Agrees, Office, IsManagementAt}
 use Rattle.bus_transactions.proofs.FitJudged.{bytes_of, spelled}
-use Rattle.label_table.specs.declared.reply.ReplyKind.{ReplyKind}
-use Rattle.label_table.specs.Layer.{Finding, Layer, judging_step, of_again, of_generation, of_grammar, of_label, of_request, of_response}
-use Rattle.label_table.specs.Requests.{reply_kind}
-use Rattle.packet_store.specs.declared.sent.Sent.{Sent}
-use Rattle.packet_store.specs.Kept.{found_sent, is_flying}
-use Rattle.rbc_disk.specs.Disk.{Disk}
-use Rattle.rbc_disk.specs.Held.{Held}
-use Rattle.rbc_disk.specs.Runs.{Told}
-use Rattle.sbp_journal.specs.Run.{Moment, said}
-use Rattle.sbp_journal.specs.Wire.{Terms, terms}
-use Rattle.sbp_journal.specs.declared.cause.Cause.{Cause}
 use Rattle.sbp_journal.specs.declared.cause.Cause.TheVariants as causes
-use Rattle.sbp_journal.specs.declared.cause.Judged.{Judged}
 use Rattle.sbp_journal.specs.declared.cause.Judged.TheVariants as judgements
 use Rattle.sbp_journal.specs.declared.note.Note.TheVariants as notes
-use Rattle.sbp_journal.specs.declared.outbox.Outgoing.{Outgoing}
-use Rattle.sbp_journal.specs.Outgoings.{empty_outbox}
-use Rattle.sbp_target.specs.declared.purpose.Purpose.{Purpose}
 use Rattle.sbp_target.specs.declared.purpose.Purpose.TheVariants as purposes
-use Rattle.target_base.specs.Addresses.{demand_of}
-use Rattle.sbp_target.specs.Nodes.{NodeState, Scene, scene}
-use Rattle.sbp_target.specs.Receiving.{judged_scene, received, received_as, with_layer}
-use Rattle.sbp_target.specs.Replies.{Whole, whole}
-use Rattle.sbp_target.specs.Serving.{answered, is_barred, request_step, serve}
-use Rattle.sbp_world.specs.Delivering.{marked, whole_of}
-use Rattle.sbp_bus.specs.Generations.{GenerationsState, node_of}
-use Rattle.sbp_world.specs.Worlds.{WorldState, with_target}
-use Rattle.sbp_world.specs.FitTarget.{FitsManager}
-use Rattle.sbp_target.specs.Histories.Transactions.{TransactionLaw}
+use Rattle.sbp_target.specs.Serving.{request_step}
 use Rattle.sbp_target.proofs.Histories.Calling.{Good}
 use Rattle.sbp_world.proofs.FitTarget.Demands.{answer_small}
 use Rattle.sbp_target.proofs.Histories.Found.{IsFound, found as found_as}
-use Rattle.sbp_world.specs.Wire.Wires.{Stands}
-use Rattle.sbp_world.specs.Agents.Management.Calls.{delivered, demanded, requested}
-use Rattle.sbp_world.specs.Agents.Management.Offices.{Agrees, Office}
-use Rattle.sbp_world.specs.Agents.Management.Terms.{IsManagementAt}
+use Rattle.sbp_world.specs.Agents.Management.Calls.{delivered}
 use Rattle.sbp_world.proofs.Agents.Management.Asking.{Turned}
 use Rattle.sbp_world.proofs.Agents.Management.Calls.{DoesAs, Doing, ForDemand, ForFinding, ForReply, ForRequest, QuietFinding, barred_same, calmly, delivery_does, managing}
 use Rattle.sbp_world.proofs.Agents.Management.Hearing.{request_current, response_current}

@@ -1,18 +1,12 @@
 -- What a request asks of the target, as the laws read it by its address and as the target reads it.
-use Rattle.std.proofs.Common.{arith, ◌≡◌, ◌∙◌, refl, sym, ap, subst, ℕ, ◌≤◌, ◌==◌, Bool, true, false, cond, List, length, Option, Some, None}
-use Rattle.std.proofs.lemmas.Bool.Decides.{nat_tests}
-use Rattle.async_packet.specs.Packet.{Packet, lock, lock_response, read_block, read_block_response, read_quadlet, read_quadlet_response, write_block, write_quadlet, write_response}
-use Rattle.orb_layout.specs.Pointers.{offset_at}
-use Rattle.sbp_journal.specs.Addresses.{Access, Start, access_of, management_agent, no_start, register, rom_start, start_at, start_serves}
-use Rattle.target_base.specs.declared.address.Access.{Access as AgentAccess}
-use Rattle.target_base.specs.declared.address.AgentRegister.{AgentRegister}
-use Rattle.target_base.specs.declared.address.Demand.{Demand}
+use Rattle.sbp_world.proofs.Words.Std.{arith, ◌≡◌, ◌∙◌, refl, sym, ap, subst, ℕ, ◌≤◌, ◌==◌, Bool, true, false, cond, List, length, Option, Some, None, nat_tests}
+use Rattle.sbp_world.proofs.Words.Wire.{Packet, lock, lock_response, read_block, read_block_response, read_quadlet, read_quadlet_response, write_block, write_quadlet, write_response, Access, Start, access_of, management_agent, no_start, register, rom_start, start_at, start_serves}
+use Rattle.sbp_world.proofs.Words.Target.{AgentAccess, AgentRegister, Demand, accessed, accessed_at, demand_by, demand_of, management_start, offset_in, or_nowhere, reached, register_at, row_of, served_by, asked_at, asked_of}
+use Rattle.sbp_world.proofs.Words.Initiator.{offset_at}
+use Rattle.sbp_world.proofs.Words.World.{demanded, Office}
 use Rattle.target_base.specs.declared.address.Demand.TheVariants as demands
-use Rattle.target_base.specs.Addresses.{accessed, accessed_at, demand_by, demand_of, managed, management_start, offset_in, or_nowhere, reached, register_at, row_of, served, served_by}
-use Rattle.sbp_target.specs.Histories.Judgements.{asked_at, asked_of}
+use Rattle.target_base.specs.Addresses.{managed, served}
 use Rattle.sbp_target.proofs.Histories.Asked.{serves_is}
-use Rattle.sbp_world.specs.Agents.Management.Calls.{demanded}
-use Rattle.sbp_world.specs.Agents.Management.Offices.{Office}
 use Rattle.sbp_world.proofs.Agents.Management.Firsts.{served_office, start_office}
 
 module _ (source : ℕ) (o : Office) where

@@ -1,36 +1,14 @@
 -- Each thing that happens in a world leaves the terms of the target's management its state.
-use Rattle.std.proofs.Common.{arith, ◌≡◌, ◌∙◌, sym, ap, subst, ℕ, ◌^◌, ◌<◌, ◌≤◌, Bool, cond, List, ◌∷◌, length, Option, Some, Ok}
-use Rattle.async_packet.specs.Packet.{Packet, header_in}
-use Rattle.async_packet.specs.Reading.{reading}
-use Rattle.bus_transactions.specs.Fitting.{AreBytes}
-use Rattle.bus_transactions.specs.Wire.{Node}
+use Rattle.sbp_world.proofs.Words.Std.{arith, ◌≡◌, ◌∙◌, sym, ap, subst, ℕ, ◌^◌, ◌<◌, ◌≤◌, Bool, cond, List, ◌∷◌, length, Option, Some, Ok}
+use Rattle.sbp_world.proofs.Words.Wire.{Packet, header_in, reading, AreBytes, Node, Sent, found_sent, Moment, terms, Judged, OutboxState, judged_note, topology_at}
+use Rattle.sbp_world.proofs.Words.Target.{Disk, Told, NodeState, received, Whole, after, receives, TransactionLaw}
+use Rattle.sbp_world.proofs.Words.World.{Arrival, arrived, at_target, delivered, delivered_by, initiator_received, marked, target_received, whole_of, handed_out, Scene, WorldState, with_note, with_target, Stands, IsManagementAt}
 use Rattle.bus_transactions.proofs.FitJudged.{source_fits}
-use Rattle.packet_store.specs.declared.sent.Sent.{Sent}
-use Rattle.packet_store.specs.Kept.{found_sent}
-use Rattle.rbc_disk.specs.Disk.{Disk}
-use Rattle.rbc_disk.specs.Runs.{Told}
-use Rattle.sbp_journal.specs.Run.{Moment}
-use Rattle.sbp_journal.specs.Wire.{terms}
-use Rattle.sbp_journal.specs.declared.cause.Judged.{Judged}
-use Rattle.sbp_journal.specs.Outgoings.{OutboxState}
-use Rattle.sbp_target.specs.Nodes.{NodeState}
-use Rattle.sbp_target.specs.Receiving.{received}
-use Rattle.sbp_target.specs.Replies.{Whole}
-use Rattle.sbp_world.specs.declared.parts.delivering.Arrival.{Arrival}
-use Rattle.sbp_bus.specs.Packets.{judged_note}
-use Rattle.sbp_world.specs.Delivering.{arrived, at_target, delivered, delivered_by, initiator_received, marked, target_received, whole_of}
-use Rattle.sbp_bus.specs.Generations.{topology_at}
-use Rattle.sbp_world.specs.Handing.{handed_out}
-use Rattle.sbp_world.specs.Worlds.{Scene, WorldState, with_note, with_target}
-use Rattle.sbp_target.specs.Calls.{after, receives}
-use Rattle.sbp_target.specs.Histories.Transactions.{TransactionLaw}
 use Rattle.sbp_target.proofs.Histories.Calling.{Good}
-use Rattle.sbp_world.specs.Wire.Wires.{Stands}
 use Rattle.sbp_world.proofs.Wire.Comes.{received_is, to_zero}
 use Rattle.sbp_world.proofs.Wire.Holding.{KnownTo, Sound}
 use Rattle.sbp_world.proofs.Wire.Nodes.{handed_alike, marked_alike}
 use Rattle.sbp_world.proofs.Wire.Starts.{laws_of}
-use Rattle.sbp_world.specs.Agents.Management.Terms.{IsManagementAt}
 use Rattle.sbp_world.proofs.Agents.Management.Delivery.{delivery_ends}
 use Rattle.sbp_world.proofs.Agents.Management.Holding.{Holding, good_of, is_of, known_id, law_of, ours, ready_for, target_generation}
 use Rattle.sbp_world.proofs.Agents.Management.Landing.{handed_world}

@@ -1,23 +1,12 @@
 -- What the first note of a turn makes of the management's terms.
-use Rattle.std.proofs.Common.{◌≡◌, ◌∙◌, refl, sym, ap, subst, ℕ, ◌+◌, not, nat_eq, Bool, true, false, cond, List, [], ◌∷◌, Some, Result, Ok, Err, arith}
-use Rattle.std.proofs.lemmas.Bool.Decides.{nat_tests}
-use Rattle.command_agent.specs.declared.step.Which.TheVariants.{Ahead, Main}
+use Rattle.sbp_world.proofs.Words.Std.{◌≡◌, ◌∙◌, refl, sym, ap, subst, ℕ, ◌+◌, not, nat_eq, Bool, true, false, cond, List, [], ◌∷◌, Some, Result, Ok, Err, arith, nat_tests}
+use Rattle.sbp_world.proofs.Words.Wire.{Access, Register, Start, agent_reset, agent_state, doorbell, management_agent, no_start, orb_pointer, register, rom_start, start_at, start_serves, unsolicited_enable, Moment, asked, said, Sending, Terms, passed, terms, Cause, Event}
+use Rattle.sbp_world.proofs.Words.Target.{Ahead, Main, Busy, Disk}
+use Rattle.sbp_world.proofs.Words.Initiator.{Ask, Answer, Expired, offset_at}
+use Rattle.sbp_world.proofs.Words.Laws.{answered_at, receiver_in, sender_in, Agent, Purpose, Target, for_agent, for_manager, got_by, is_serial, known_at, manager_step, over, purpose_among, register_got, replied, replied_to, request_got, reset_seen, start_got, started_by, target_at, target_by}
+use Rattle.sbp_world.proofs.Words.World.{Office, at_rest, cleared, office_of, office_replied, started, stepped, ticked}
 use Rattle.mgmt_agent.specs.Machine as manager
-use Rattle.mgmt_agent.specs.declared.operation.Busy.{Busy}
-use Rattle.orb_layout.specs.declared.ask.Ask.{Ask}
-use Rattle.orb_layout.specs.Replies.{Answer, Expired}
-use Rattle.orb_layout.specs.Pointers.{offset_at}
-use Rattle.rbc_disk.specs.Disk.{Disk}
-use Rattle.sbp_journal.specs.Addresses.{Access, Register, Start, agent_reset, agent_state, doorbell, management_agent, no_start, orb_pointer, register, rom_start, start_at, start_serves, unsolicited_enable}
-use Rattle.sbp_journal.specs.Run.{Moment, asked, said}
-use Rattle.sbp_journal.specs.Transactions.{Sending}
-use Rattle.sbp_journal.specs.Wire.{Terms, passed, terms}
-use Rattle.sbp_journal.specs.declared.cause.Cause.{Cause}
-use Rattle.sbp_journal.specs.declared.event.Event.{Event}
 use Rattle.sbp_journal.specs.declared.note.Note.TheVariants as notes
-use Rattle.sbp_laws.specs.Packets.{answered_at, receiver_in, sender_in}
-use Rattle.sbp_laws.specs.Targets.{Agent, Purpose, Target, for_agent, for_manager, got_by, is_serial, known_at, manager_step, over, purpose_among, register_got, replied, replied_to, request_got, reset_seen, start_got, started_by, target_at, target_by}
-use Rattle.sbp_world.specs.Agents.Management.Offices.{Office, at_rest, cleared, office_of, replied as office_replied, started, stepped, ticked}
 use Rattle.sbp_world.specs.Agents.Management.Offices as offices
 use Rattle.sbp_world.proofs.Agents.Management.Idle.{IsIdle, managed_idle, managed_office}
 use Rattle.sbp_world.proofs.Agents.Management.Offices.{over_keeps}

@@ -1,34 +1,17 @@
 -- An initiator has a turn, or nothing happens to the target: its terms stay its state.
-use Rattle.std.proofs.Common.{arith, ◌≡◌, ◌∙◌, refl, sym, ap, subst, ℕ, zero, suc, ◌<◌, ◌≤◌, nat_eq, nat_lt, Bool, true, false, List, ◌∷◌, length, Option, Some, None}
-use Rattle.std.specs.Prelude.{slice_index_or, slice_set}
-use Rattle.bus_transactions.specs.Wire.{as_sending}
-use Rattle.packet_store.specs.declared.sent.Sent.{Sent}
-use Rattle.packet_store.specs.Kept.{found_sent}
-use Rattle.rbc_disk.specs.Disk.{Disk}
-use Rattle.rbc_disk.specs.Runs.{Told}
-use Rattle.sbp_initiator.specs.Initiators.{new_state}
-use Rattle.sbp_initiator.specs.Receiving.{receive_step}
-use Rattle.sbp_initiator.specs.declared.state.InitiatorState.{InitiatorState}
-use Rattle.sbp_journal.specs.Run.{Moment, said}
-use Rattle.sbp_journal.specs.Transactions.{Part, Sending, Transaction, between, no_packet, part_of, request, response}
-use Rattle.sbp_journal.specs.Wire.{Terms, gets, terms}
-use Rattle.sbp_journal.specs.declared.cause.Judged.{Judged}
+use Rattle.sbp_world.proofs.Words.Std.{arith, ◌≡◌, ◌∙◌, refl, sym, ap, subst, ℕ, zero, suc, ◌<◌, ◌≤◌, nat_eq, nat_lt, Bool, true, false, List, ◌∷◌, length, Option, Some, None, slice_index_or, slice_set}
+use Rattle.sbp_world.proofs.Words.Wire.{as_sending, Sent, found_sent, Moment, said, Part, Sending, Transaction, between, part_of, request, response, Terms, gets, terms, Judged, OutboxState, empty_outbox, judged_note}
+use Rattle.sbp_world.proofs.Words.Target.{Disk, Told, NodeState}
+use Rattle.sbp_world.proofs.Words.Initiator.{new_state, receive_step, InitiatorState}
+use Rattle.sbp_world.proofs.Words.Laws.{target_at}
+use Rattle.sbp_world.proofs.Words.World.{Arrival, arrived, delivered, delivered_by, initiators_received, marked, received_by, received_step, with_initiators, handed_out, Scene, WorldState, with_note, Office, at_rest, office_of, IsManagementAt}
+use Rattle.sbp_journal.specs.Transactions.{no_packet}
 use Rattle.sbp_journal.specs.declared.cause.Judged.TheVariants as judgements
 use Rattle.sbp_journal.specs.declared.note.Note.TheVariants as notes
-use Rattle.sbp_journal.specs.Outgoings.{OutboxState, empty_outbox}
-use Rattle.sbp_laws.specs.Targets.{target_at}
-use Rattle.sbp_target.specs.Nodes.{NodeState}
-use Rattle.sbp_world.specs.declared.parts.delivering.Arrival.{Arrival}
-use Rattle.sbp_bus.specs.Packets.{judged_note}
-use Rattle.sbp_world.specs.Delivering.{arrived, delivered, delivered_by, initiators_received, marked, received_by, received_step, with_initiators}
-use Rattle.sbp_world.specs.Handing.{handed_out}
-use Rattle.sbp_world.specs.Worlds.{Scene, WorldState, with_note}
 use Rattle.sbp_world.proofs.Wire.Comes.{own_inside, own_outside, to_own}
 use Rattle.sbp_world.proofs.Wire.Holding.{Sound}
 use Rattle.sbp_world.proofs.Wire.Nodes.{handed_alike, marked_alike}
 use Rattle.sbp_world.proofs.Wire.Starts.{laws_of}
-use Rattle.sbp_world.specs.Agents.Management.Offices.{Office, at_rest, office_of}
-use Rattle.sbp_world.specs.Agents.Management.Terms.{IsManagementAt}
 use Rattle.sbp_world.proofs.Agents.Management.Events.{heard_target}
 use Rattle.sbp_world.proofs.Agents.Management.Firsts.{got_there, ignored_office, rests}
 use Rattle.sbp_world.proofs.Agents.Management.Holding.{Holding, marked_hist, was_sent}

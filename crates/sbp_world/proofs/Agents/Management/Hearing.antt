@@ -1,26 +1,12 @@
 -- What the history says of a packet that the target got, where its transaction layer found it a response.
-use Rattle.std.proofs.Common.{arith, ◌≡◌, ◌∙◌, refl, sym, ap, subst, ℕ, ◌==◌, is_some, Bool, true, false, cond, List, Option, Some, None, Result, Ok, Err}
+use Rattle.sbp_world.proofs.Words.Std.{arith, ◌≡◌, ◌∙◌, refl, sym, ap, subst, ℕ, ◌==◌, is_some, Bool, true, false, cond, List, Option, Some, None, Result, Ok, Err, nat_tests}
+use Rattle.sbp_world.proofs.Words.Wire.{PacketFault, LabelParts, Packet, header_in, lock, lock_response, read_block, read_block_response, read_quadlet, read_quadlet_response, write_block, write_quadlet, write_response, reading, is_awaited, is_response, may_get, waits_for, LabelState, ReplyKind, Facts, Row, by_again, by_generation, by_grammar, by_label, by_request, by_response, row_of, Finding, Layer, closed_at, closed_by, closing_in, closing_step, facts_in, layer_facts, judged_by, judging_step, of_again, of_generation, of_grammar, of_label, of_request, of_response, peer_at, peer_place, responded, PeerPlace, close_place, closed_for, reply_kind, Table, close_in, close_step, handle, place_at, Kind, Part, Sending, between, is_same_kind, locking, part_in, part_of, reading_block, reading_quadlet, request, response, writing, Held, Terms, free, rests, waits}
+use Rattle.sbp_world.proofs.Words.Target.{Purpose, answer_in}
+use Rattle.sbp_world.proofs.Words.Laws.{answer_of, answered_as, answered_at, answered_in, wire_closed}
 use Rattle.std.specs.Prelude.{IfSome}
-use Rattle.std.proofs.lemmas.Bool.Decides.{nat_tests}
-use Rattle.async_packet.specs.declared.fault.PacketFault.{PacketFault}
-use Rattle.async_packet.specs.Labels.{LabelParts}
-use Rattle.async_packet.specs.Packet.{Packet, header_in, lock, lock_response, read_block, read_block_response, read_quadlet, read_quadlet_response, write_block, write_quadlet, write_response}
-use Rattle.async_packet.specs.Reading.{reading}
-use Rattle.bus_transactions.specs.Judging.{facts_of, is_awaited, is_response, may_get, waits_for}
+use Rattle.bus_transactions.specs.Judging.{facts_of}
 use Rattle.bus_transactions.proofs.PacketParts.{PartOf, asks, part_case, part_read, replies}
-use Rattle.label_table.specs.declared.place.LabelState.{LabelState}
 use Rattle.label_table.specs.declared.place.LabelState.TheVariants as states
-use Rattle.label_table.specs.declared.reply.ReplyKind.{ReplyKind}
-use Rattle.label_table.specs.Judging.{Facts, Row, by_again, by_generation, by_grammar, by_label, by_request, by_response, row_of}
-use Rattle.label_table.specs.Layer.{Finding, Layer, closed_at, closed_by, closing_in, closing_step, facts_in, facts_of as layer_facts, judged_by, judging_step, of_again, of_generation, of_grammar, of_label, of_request, of_response, peer_at, peer_place, responded}
-use Rattle.label_table.specs.Peers.{PeerPlace, close_place, closed_for}
-use Rattle.label_table.specs.Requests.{reply_kind}
-use Rattle.label_table.specs.Table.{Table, close_in, close_step, handle, place_at}
-use Rattle.sbp_journal.specs.Transactions.{Kind, Part, Sending, between, is_same_kind, locking, part_in, part_of, reading_block, reading_quadlet, request, response, writing}
-use Rattle.sbp_journal.specs.Wire.{Held, Terms, free, rests, waits}
-use Rattle.sbp_laws.specs.Packets.{answer_of, answered_as, answered_at, answered_in, closed_by as wire_closed}
-use Rattle.sbp_target.specs.declared.purpose.Purpose.{Purpose}
-use Rattle.sbp_target.specs.Receiving.{answer_in}
 
 -- ---- the label that a response closes has the number in its header
 

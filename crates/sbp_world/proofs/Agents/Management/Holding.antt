@@ -1,39 +1,17 @@
 -- What holds of a world between two turns, and what is known of it as a turn of the target begins and ends.
-use Rattle.std.proofs.Common.{arith, ◌≡◌, ◌∙◌, refl, sym, ap, subst, ℕ, ◌+◌, ◌^◌, ◌<◌, ◌≤◌, ◌||◌, not, Bool, true, false, List, [], ◌∷◌, length, Option, Some, None}
-use Rattle.async_packet.specs.Labels.{LabelParts}
-use Rattle.bus_transactions.specs.Judging.{AreJudged}
-use Rattle.bus_transactions.specs.Reached.{IsOf}
-use Rattle.bus_transactions.specs.Wire.{as_sending}
+use Rattle.sbp_world.proofs.Words.Std.{arith, ◌≡◌, ◌∙◌, refl, sym, ap, subst, ℕ, ◌+◌, ◌^◌, ◌<◌, ◌≤◌, ◌||◌, not, Bool, true, false, List, [], ◌∷◌, length, Option, Some, None}
+use Rattle.sbp_world.proofs.Words.Wire.{LabelParts, AreJudged, IsOf, as_sending, Sent, found_sent, is_flying, Stored, Moment, Terms, terms, Outgoing, Side, OutboxState, id_of, node_of, topology_at}
+use Rattle.sbp_world.proofs.Words.Target.{Disk, NodeState, Call, after, TransactionLaw}
+use Rattle.sbp_world.proofs.Words.World.{marked, handed_out, asked, posted, sent, sent_all, sent_to, told, told_all, WorldState, IsOurs, Stands, IsManagementAt}
 use Rattle.bus_transactions.proofs.Follows.{found_kept}
 use Rattle.bus_transactions.proofs.Reaches.{goes_on}
-use Rattle.packet_store.specs.declared.sent.Sent.{Sent}
-use Rattle.packet_store.specs.Kept.{found_sent, is_flying}
-use Rattle.packet_store.specs.Stored.{Stored}
-use Rattle.rbc_disk.specs.Disk.{Disk}
-use Rattle.sbp_journal.specs.Run.{Moment}
-use Rattle.sbp_journal.specs.Wire.{Terms, terms}
-use Rattle.sbp_journal.specs.declared.outbox.Outgoing.{Outgoing}
-use Rattle.sbp_journal.specs.declared.side.Side.{Side}
 use Rattle.sbp_journal.specs.declared.side.Side.TheVariants as sides
-use Rattle.sbp_journal.specs.Outgoings.{OutboxState}
-use Rattle.sbp_target.specs.Nodes.{NodeState}
-use Rattle.sbp_world.specs.Delivering.{marked}
-use Rattle.sbp_bus.specs.Generations.{id_of, node_of, topology_at}
-use Rattle.sbp_world.specs.Handing.{handed_out}
-use Rattle.sbp_world.specs.Sending.{asked, posted, sent, sent_all, sent_to}
-use Rattle.sbp_world.specs.Telling.{told, told_all}
-use Rattle.sbp_world.specs.Worlds.{WorldState}
-use Rattle.sbp_target.specs.Calls.{Call, after}
-use Rattle.sbp_target.specs.Histories.Transactions.{TransactionLaw}
 use Rattle.sbp_target.proofs.Histories.Calling.{Good}
 use Rattle.sbp_target.proofs.Histories.Settled.{all_good}
 use Rattle.sbp_target.proofs.Histories.Under.{under_way_law}
-use Rattle.sbp_world.specs.Wire.Knows.{IsOurs}
-use Rattle.sbp_world.specs.Wire.Wires.{Stands}
 use Rattle.sbp_world.proofs.Wire.Bus.{holds}
 use Rattle.sbp_world.proofs.Wire.Found.{IsKnown, node_found}
 use Rattle.sbp_world.proofs.Wire.Holding.{Sound}
-use Rattle.sbp_world.specs.Agents.Management.Terms.{IsManagementAt}
 use Rattle.sbp_world.proofs.Agents.Management.Managed.{IsReady}
 use Rattle.sbp_world.proofs.Agents.Management.Sides.{AllBehind, TellsBehind}
 use Rattle.sbp_world.proofs.Agents.Management.Still.{hist}

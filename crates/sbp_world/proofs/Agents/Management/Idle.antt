@@ -1,28 +1,17 @@
 -- A turn begins with agents that ask for nothing and wait for no reply, and a turn of the management leaves them so.
-use Rattle.std.proofs.Common.{◌≡◌, ◌∙◌, refl, sym, ap, subst, ℕ, zero, suc, ◌+◌, ◌||◌, Bool, true, false, cond, List, [], ◌∷◌, map, get_or, set, Option, Some, None}
-use Rattle.std.specs.Prelude.{is_none, position}
-use Rattle.std.proofs.lemmas.List.Quantifiers.{position-Some}
+use Rattle.sbp_world.proofs.Words.Std.{◌≡◌, ◌∙◌, refl, sym, ap, subst, ℕ, zero, suc, ◌+◌, ◌||◌, Bool, true, false, cond, List, [], ◌∷◌, map, get_or, set, Option, Some, None, is_none, position, position-Some}
+use Rattle.sbp_world.proofs.Words.Wire.{Moment, Terms, Note, FunctionWord}
+use Rattle.sbp_world.proofs.Words.Target.{Ahead, Effect, ManagerStep, Table}
+use Rattle.sbp_world.proofs.Words.Initiator.{Ask, Nothing, Read, Write, FailCause, Answer}
+use Rattle.sbp_world.proofs.Words.Laws.{Agent, Decided, Target, agent_at, agent_over, cut_agent, cut_where, effect_on, entered_by, enters_in, going_on, is_nothing, is_own_run, main_lost, managed_by, new_agent, on_unit, over, ran_on, taken_on, target_by, wants, wants_it}
+use Rattle.sbp_world.proofs.Words.World.{office_of, stepped}
 use Rattle.command_agent.specs.Steps as steps
-use Rattle.command_agent.specs.declared.step.Which.TheVariants.{Ahead}
-use Rattle.mgmt_agent.specs.declared.decision.Effect.{Effect}
 use Rattle.mgmt_agent.specs.declared.decision.Effect.TheVariants as effects
-use Rattle.mgmt_agent.specs.declared.decision.ManagerStep.{ManagerStep}
 use Rattle.mgmt_agent.specs.Machine as manager
-use Rattle.login_table.specs.Table.{Table}
-use Rattle.orb_layout.specs.declared.ask.Ask.{Ask}
-use Rattle.orb_layout.specs.declared.ask.Ask.TheVariants.{Nothing, Read, Write}
-use Rattle.orb_layout.specs.declared.ask.FailCause.{FailCause}
 use Rattle.orb_layout.specs.declared.ask.FailCause.TheVariants as causes
-use Rattle.orb_layout.specs.Replies.{Answer}
-use Rattle.sbp_journal.specs.Run.{Moment}
-use Rattle.sbp_journal.specs.Wire.{Terms}
-use Rattle.sbp_journal.specs.declared.note.Note.{Note}
 use Rattle.sbp_journal.specs.declared.note.Note.TheVariants as notes
-use Rattle.sbp_journal.specs.declared.operation.FunctionWord.{FunctionWord}
 use Rattle.sbp_journal.specs.declared.operation.FunctionWord.TheVariants as functions
-use Rattle.sbp_laws.specs.Targets.{Agent, Decided, Target, agent_at, agent_over, cut_agent, cut_where, effect_on, entered_by, enters_in, going_on, is_nothing, is_own_run, main_lost, managed_by, new_agent, on_unit, over, ran_on, taken_on, target_by, wants, wants_it}
 use Rattle.sbp_laws.proofs.Going.{going_still, run_still, taken_rests}
-use Rattle.sbp_world.specs.Agents.Management.Offices.{office_of, stepped}
 use Rattle.sbp_world.proofs.Agents.Management.Offices.{IsBehind}
 
 abbrev pub AsksNone : Agent → Type 0

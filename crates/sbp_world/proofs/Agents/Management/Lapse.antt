@@ -1,51 +1,24 @@
 -- A transaction of the target times out: behind the turn its terms are again its state.
-use Rattle.std.proofs.Common.{arith, ◌≡◌, ◌≢◌, ◌∙◌, refl, sym, ap, subst, ℕ, zero, suc, ◌^◌, ◌<◌, nat_eq, Bool, true, false, cond, List, [], ◌∷◌, Option, Some, None, Result, Ok}
-use Rattle.std.proofs.lemmas.Bool.Decides.{nat_tests}
-use Rattle.async_packet.specs.Labels.{LabelParts}
-use Rattle.bus_transactions.specs.Bare.{bare, bare_after, bare_purpose, bare_result}
-use Rattle.bus_transactions.specs.Fitting.{AreBytes}
-use Rattle.bus_transactions.specs.Wire.{Node, transaction}
+use Rattle.sbp_world.proofs.Words.Std.{arith, ◌≡◌, ◌≢◌, ◌∙◌, refl, sym, ap, subst, ℕ, zero, suc, ◌^◌, ◌<◌, nat_eq, Bool, true, false, cond, List, [], ◌∷◌, Option, Some, None, Result, Ok, nat_tests}
+use Rattle.sbp_world.proofs.Words.Wire.{LabelParts, bare, bare_after, bare_purpose, bare_result, AreBytes, Node, transaction, ReplyKind, Stale, Layer, expiring_step, Moment, said, Kind, Sending, Transaction, begun_by, is_same, Terms, begun_in, terms, times_out, waits, OutboxState, Request, find}
+use Rattle.sbp_world.proofs.Words.Target.{Table, ManagerStep, source_in, Disk, Purpose, NodeState, scene, IsUnderWay, TransactionLaw}
+use Rattle.sbp_world.proofs.Words.Initiator.{Expired}
+use Rattle.sbp_world.proofs.Words.Laws.{sender_in, Target, is_serial, over, laws_replied, target_at, target_by}
+use Rattle.sbp_world.proofs.Words.World.{handed_out, WorldState, with_note, with_target, FitsManager, IsOfWire, IsLatest, Stands, Office, at_rest, office_of, replied, Awaits, IsManagementAt}
 use Rattle.bus_transactions.proofs.Bares.{takes_steps}
 use Rattle.bus_transactions.proofs.Facts.{asked_is, begun_asked}
 use Rattle.bus_transactions.proofs.PacketParts.{same_is}
 use Rattle.bus_transactions.proofs.Reaches.{goes_on}
-use Rattle.label_table.specs.declared.reply.ReplyKind.{ReplyKind}
-use Rattle.label_table.specs.declared.reply.Stale.{Stale}
-use Rattle.label_table.specs.Layer.{Layer, expiring_step}
-use Rattle.login_table.specs.Table.{Table}
-use Rattle.mgmt_agent.specs.declared.decision.ManagerStep.{ManagerStep}
 use Rattle.mgmt_agent.specs.Machine as management
-use Rattle.mgmt_agent.specs.Machine.{source_in}
-use Rattle.orb_layout.specs.Replies.{Expired}
-use Rattle.rbc_disk.specs.Disk.{Disk}
-use Rattle.sbp_journal.specs.Run.{Moment, said}
-use Rattle.sbp_journal.specs.Transactions.{Kind, Sending, Transaction, begun_by, is_same}
-use Rattle.sbp_journal.specs.Wire.{Terms, begun_in, terms, times_out, waits}
 use Rattle.sbp_journal.specs.declared.note.Note.TheVariants as notes
-use Rattle.sbp_journal.specs.Outgoings.{OutboxState}
-use Rattle.sbp_laws.specs.Packets.{sender_in}
-use Rattle.sbp_laws.specs.Targets.{Target, is_serial, over, replied as laws_replied, target_at, target_by}
-use Rattle.sbp_target.specs.declared.purpose.Purpose.{Purpose}
 use Rattle.sbp_target.specs.declared.purpose.Purpose.TheVariants as purposes
-use Rattle.sbp_target.specs.Nodes.{NodeState, scene}
-use Rattle.sbp_bus.specs.declared.requests.Request.{Request}
-use Rattle.sbp_world.specs.Handing.{handed_out}
-use Rattle.sbp_bus.specs.Requests.{find}
-use Rattle.sbp_world.specs.Worlds.{WorldState, with_note, with_target}
-use Rattle.sbp_world.specs.FitTarget.{FitsManager}
-use Rattle.sbp_target.specs.Histories.Transactions.{IsUnderWay, TransactionLaw}
 use Rattle.sbp_target.proofs.Histories.Calling.{Good}
 use Rattle.sbp_world.proofs.FitTarget.Agents.{FitsAsk}
 use Rattle.sbp_world.proofs.FitTarget.Manager.{managed_fits}
 use Rattle.sbp_target.proofs.Histories.Primitives.{Expiring, expiring_known}
 use Rattle.sbp_target.proofs.Histories.Seats.{Lives}
-use Rattle.sbp_world.specs.Wire.History.{IsOfWire}
-use Rattle.sbp_world.specs.Wire.Knows.{IsLatest}
-use Rattle.sbp_world.specs.Wire.Wires.{Stands}
 use Rattle.sbp_world.proofs.Wire.Bus.{holds}
 use Rattle.sbp_world.proofs.Wire.Handles.{expired_generation}
-use Rattle.sbp_world.specs.Agents.Management.Offices.{Office, at_rest, office_of, replied}
-use Rattle.sbp_world.specs.Agents.Management.Terms.{Awaits, IsManagementAt}
 use Rattle.sbp_world.proofs.Agents.Management.Asking.{Turned}
 use Rattle.sbp_world.proofs.Agents.Management.Awaiting.{under_for}
 use Rattle.sbp_world.proofs.Agents.Management.Calm.{Calm, ForManager}

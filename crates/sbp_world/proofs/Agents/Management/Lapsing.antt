@@ -1,44 +1,18 @@
 -- A transaction times out in a world: the terms of the target's management stay its state.
-use Rattle.std.proofs.Common.{arith, ◌≡◌, ◌≢◌, ◌∙◌, refl, sym, ap, subst, ℕ, zero, suc, ◌-◌, ◌^◌, ◌<◌, ◌≤◌, nat_eq, nat_lt, Bool, true, false, List, ◌∷◌, length, Option, Some, None, Result, Ok, Err}
-use Rattle.std.specs.Prelude.{if◌then◌else◌}
-use Rattle.bus_transactions.specs.Fitting.{AreBytes}
-use Rattle.label_table.specs.declared.reply.Stale.{Stale}
-use Rattle.label_table.specs.Layer.{Layer, expiring_step}
-use Rattle.mgmt_agent.specs.declared.operation.Operation.{Operation}
-use Rattle.mgmt_agent.specs.Machine.{source_in}
-use Rattle.orb_layout.specs.Replies.{Expired}
-use Rattle.rbc_disk.specs.Disk.{Disk}
-use Rattle.sbp_initiator.specs.Effects.{Turn}
-use Rattle.sbp_initiator.specs.Receiving.{expire_step}
-use Rattle.sbp_journal.specs.Outgoings.{empty_outbox}
-use Rattle.sbp_journal.specs.Run.{Moment, said}
-use Rattle.sbp_journal.specs.Transactions.{Sending, Transaction}
-use Rattle.sbp_journal.specs.Wire.{Terms, begun_in, terms, times_out}
+use Rattle.sbp_world.proofs.Words.Std.{arith, ◌≡◌, ◌≢◌, ◌∙◌, refl, sym, ap, subst, ℕ, zero, suc, ◌-◌, ◌^◌, ◌<◌, ◌≤◌, nat_eq, nat_lt, Bool, true, false, List, ◌∷◌, length, Option, Some, None, Result, Ok, Err, if◌then◌else◌}
+use Rattle.sbp_world.proofs.Words.Wire.{AreBytes, Stale, Layer, expiring_step, empty_outbox, Moment, said, Sending, Transaction, Terms, begun_in, terms, times_out, Request, topology_at, no_packet, find}
+use Rattle.sbp_world.proofs.Words.Target.{Operation, source_in, Disk, Purpose, NodeState, Scene, scene, expired, expired_in, after, lets_expire, TransactionLaw}
+use Rattle.sbp_world.proofs.Words.Initiator.{Expired, Turn, expire_step}
+use Rattle.sbp_world.proofs.Words.Laws.{target_at}
+use Rattle.sbp_world.proofs.Words.World.{handed_out, at_initiator, expires, initiator_expires, refused, target_expired, target_left, timed_out, timeout_line, timeout_of, WorldState, initiator_at, with_initiator, with_note, FitsOperation, Stands, lapsed, Agrees, Office, at_rest, office_of, replied, IsManagementAt}
 use Rattle.sbp_journal.specs.declared.note.Note.TheVariants as notes
-use Rattle.sbp_laws.specs.Targets.{target_at}
-use Rattle.sbp_target.specs.declared.purpose.Purpose.{Purpose}
 use Rattle.sbp_target.specs.declared.purpose.Purpose.TheVariants as purposes
-use Rattle.sbp_target.specs.Nodes.{NodeState, Scene, scene}
-use Rattle.sbp_target.specs.Receiving.{expired, expired_in}
-use Rattle.sbp_bus.specs.declared.requests.Request.{Request}
-use Rattle.sbp_bus.specs.Generations.{topology_at}
-use Rattle.sbp_world.specs.Handing.{handed_out}
-use Rattle.sbp_bus.specs.Packets.{no_packet}
-use Rattle.sbp_world.specs.Packets.{at_initiator, at_target, expires, initiator_expires, refused, target_expired, target_left, timed_out, timeout_line, timeout_of}
-use Rattle.sbp_bus.specs.Requests.{find}
-use Rattle.sbp_world.specs.Worlds.{WorldState, initiator_at, with_initiator, with_note}
-use Rattle.sbp_target.specs.Calls.{after, lets_expire}
-use Rattle.sbp_world.specs.FitTarget.{FitsOperation}
-use Rattle.sbp_target.specs.Histories.Transactions.{TransactionLaw}
+use Rattle.sbp_world.specs.Packets.{at_target}
 use Rattle.sbp_target.proofs.Histories.Calling.{Good}
-use Rattle.sbp_world.specs.Wire.Wires.{Stands}
 use Rattle.sbp_world.proofs.Wire.Found.{has_known}
 use Rattle.sbp_world.proofs.Wire.Holding.{KnownTo, Sound, known_small}
 use Rattle.sbp_world.proofs.Wire.Nodes.{handed_alike}
 use Rattle.sbp_world.proofs.Wire.Starts.{laws_of}
-use Rattle.sbp_world.specs.Agents.Management.Calls.{lapsed}
-use Rattle.sbp_world.specs.Agents.Management.Offices.{Agrees, Office, at_rest, office_of, replied}
-use Rattle.sbp_world.specs.Agents.Management.Terms.{IsManagementAt}
 use Rattle.sbp_world.proofs.Agents.Management.Asking.{Turned}
 use Rattle.sbp_world.proofs.Agents.Management.Calls.{Doing, ForLapse, ForReply, QuietLapse, calmly, lapse_does, managing}
 use Rattle.sbp_world.proofs.Agents.Management.Firsts.{lapsed_there, rests}

@@ -1,35 +1,14 @@
 -- After each line of a world the terms of the target's management are its state.
-use Rattle.std.proofs.Common.{arith, ◌≡◌, ◌∙◌, refl, sym, ap, subst, ℕ, ◌+◌, ◌^◌, ◌<◌, ◌≤◌, nat_eq, Bool, true, false, cond, List, [], ◌∷◌, length, Option, Some, None}
-use Rattle.std.specs.Prelude.{if◌then◌else◌}
-use Rattle.bus_transactions.specs.May.{is_reset}
+use Rattle.sbp_world.proofs.Words.Std.{arith, ◌≡◌, ◌∙◌, refl, sym, ap, subst, ℕ, ◌+◌, ◌^◌, ◌<◌, ◌≤◌, nat_eq, Bool, true, false, cond, List, [], ◌∷◌, length, Option, Some, None, if◌then◌else◌, upd}
+use Rattle.sbp_world.proofs.Words.Wire.{is_reset, flying, empty_outbox, Moment, asked, Sending, Transaction, Terms, sends, terms, Action, Event, topology_at, no_node, no_packet, end_note}
+use Rattle.sbp_world.proofs.Words.Target.{Disk, Told}
+use Rattle.sbp_world.proofs.Words.Initiator.{Nothing, act_step, Turn}
+use Rattle.sbp_world.proofs.Words.World.{acted, acted_by, happens, weight_in, reset_line, delivered_if, first_told, injected, injected_to, inject_line, is_in_flight, lose_line, lost, may_repeat, refused, posted, after_all, delivered_at, delivered_next, is_settled, lowest, Scene, WorldState, begun, initiator_at, with_initiator, with_note, without_notes, BytesTold, IsLine, Office, at_rest}
 use Rattle.bus_transactions.proofs.Facts.{injected_begun}
 use Rattle.sbp_world.proofs.FitInitiator.Law.{fitting_law as own_fitting_law}
-use Rattle.orb_layout.specs.declared.ask.Ask.TheVariants.{Nothing}
-use Rattle.packet_store.specs.Kept.{flying}
-use Rattle.rbc_disk.specs.Disk.{Disk}
-use Rattle.rbc_disk.specs.Runs.{Told}
-use Rattle.sbp_base.specs.Update.{upd}
-use Rattle.sbp_initiator.specs.Acting.{act_step}
-use Rattle.sbp_initiator.specs.Effects.{Turn}
-use Rattle.sbp_journal.specs.Outgoings.{empty_outbox}
-use Rattle.sbp_journal.specs.Run.{Moment, asked}
-use Rattle.sbp_journal.specs.Transactions.{Sending, Transaction}
-use Rattle.sbp_journal.specs.Wire.{Terms, sends, terms}
-use Rattle.sbp_journal.specs.declared.event.Action.{Action}
-use Rattle.sbp_journal.specs.declared.event.Event.{Event}
 use Rattle.sbp_journal.specs.declared.event.Event.TheVariants as events
 use Rattle.sbp_journal.specs.declared.note.Note.TheVariants as notes
-use Rattle.sbp_bus.specs.Generations.{topology_at}
-use Rattle.sbp_world.specs.Lines.{acted, acted_by, happens, weight_in}
-use Rattle.sbp_world.specs.Nodes.{reset_line}
-use Rattle.sbp_bus.specs.Packets.{no_node, no_packet, end_note}
-use Rattle.sbp_world.specs.Packets.{delivered_if, first_told, injected, injected_to, inject_line, is_in_flight, lose_line, lost, may_repeat, refused}
-use Rattle.sbp_world.specs.Sending.{posted}
-use Rattle.sbp_world.specs.Settling.{after_all, delivered_at, delivered_next, is_settled, lowest}
-use Rattle.sbp_world.specs.Worlds.{Scene, WorldState, begun, initiator_at, with_initiator, with_note, without_notes}
-use Rattle.sbp_world.specs.FitTarget.{BytesTold}
 use Rattle.sbp_world.proofs.FitTarget.Law.{fitting_law}
-use Rattle.sbp_world.specs.Wire.Lines.{IsLine}
 use Rattle.sbp_world.proofs.Wire.Bus.{holds}
 use Rattle.sbp_world.proofs.Wire.Hears.{hears}
 use Rattle.sbp_world.proofs.Wire.Holding.{Sound, later}
@@ -37,7 +16,6 @@ use Rattle.sbp_world.proofs.Wire.Repeats.{said_same}
 use Rattle.sbp_world.proofs.Wire.Sound.{line_goes, first_flies}
 use Rattle.sbp_world.proofs.Wire.Tells.{starts}
 use Rattle.sbp_world.proofs.Wire.ToldBytes.{AreTold}
-use Rattle.sbp_world.specs.Agents.Management.Offices.{Office, at_rest}
 use Rattle.sbp_world.proofs.Agents.Management.Firsts.{opened_office}
 use Rattle.sbp_world.proofs.Agents.Management.Hands.{carried, heard, own_turn}
 use Rattle.sbp_world.proofs.Agents.Management.Holding.{Holding, past_terms}

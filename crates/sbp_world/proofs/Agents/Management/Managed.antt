@@ -1,36 +1,15 @@
 -- The end of a turn of the management operation: its terms are again its state.
-use Rattle.std.proofs.Common.{arith, ◌≡◌, ◌∙◌, refl, sym, ap, subst, ℕ, ◌+◌, ◌^◌, ◌<◌, true, false, List, [], ◌∷◌, Option, Some, None}
-use Rattle.async_packet.specs.Labels.{LabelParts}
-use Rattle.bus_transactions.specs.Fitting.{AreBytes, FitsRequest}
-use Rattle.bus_transactions.specs.Packets.{SerialsCount}
-use Rattle.bus_transactions.specs.Sent.{AreSent}
-use Rattle.label_table.specs.declared.judgement.Asked.{Asked}
-use Rattle.label_table.specs.declared.reply.ReplyKind.{ReplyKind}
-use Rattle.label_table.specs.Layer.{Layer}
+use Rattle.sbp_world.proofs.Words.Std.{arith, ◌≡◌, ◌∙◌, refl, sym, ap, subst, ℕ, ◌+◌, ◌^◌, ◌<◌, true, false, List, [], ◌∷◌, Option, Some, None}
+use Rattle.sbp_world.proofs.Words.Wire.{LabelParts, AreBytes, FitsRequest, SerialsCount, AreSent, Asked, ReplyKind, Layer, Moment, terms, Outgoing, OutboxState, GenerationsState, node_of}
+use Rattle.sbp_world.proofs.Words.Target.{source_in, Disk, Purpose, NodeState, scene, request_packet, TransactionLaw}
+use Rattle.sbp_world.proofs.Words.Laws.{wants}
+use Rattle.sbp_world.proofs.Words.World.{handed_out, sent, sent_all, told_all, WorldState, Agrees, Office, by_sides, office_of, IsManagementAt}
 use Rattle.mgmt_agent.specs.Machine as management
-use Rattle.mgmt_agent.specs.Machine.{source_in}
-use Rattle.rbc_disk.specs.Disk.{Disk}
-use Rattle.sbp_journal.specs.Run.{Moment}
-use Rattle.sbp_journal.specs.Wire.{terms}
-use Rattle.sbp_journal.specs.declared.outbox.Outgoing.{Outgoing}
-use Rattle.sbp_journal.specs.Outgoings.{OutboxState}
-use Rattle.sbp_laws.specs.Targets.{wants}
-use Rattle.sbp_target.specs.declared.purpose.Purpose.{Purpose}
 use Rattle.sbp_target.specs.declared.purpose.Purpose.TheVariants as purposes
-use Rattle.sbp_target.specs.Nodes.{NodeState, scene}
-use Rattle.sbp_bus.specs.Generations.{GenerationsState, node_of}
-use Rattle.sbp_world.specs.Handing.{handed_out}
-use Rattle.sbp_world.specs.Sending.{sent, sent_all}
-use Rattle.sbp_world.specs.Telling.{told_all}
-use Rattle.sbp_world.specs.Worlds.{WorldState}
-use Rattle.sbp_target.specs.Histories.Layers.{request as request_packet}
-use Rattle.sbp_target.specs.Histories.Transactions.{TransactionLaw}
 use Rattle.sbp_world.proofs.FitTarget.Agents.{FitsAsk}
 use Rattle.sbp_world.proofs.FitTarget.Nodes.{IfBody, manager_body_fits}
 use Rattle.sbp_target.proofs.Histories.Seats.{Lives}
 use Rattle.sbp_world.proofs.Wire.Alike.{IsAlike, alike_then, all_alike, sent_more, told_alike}
-use Rattle.sbp_world.specs.Agents.Management.Offices.{Agrees, Office, by_sides, office_of}
-use Rattle.sbp_world.specs.Agents.Management.Terms.{IsManagementAt}
 use Rattle.sbp_world.proofs.Agents.Management.Asking.{Leaves, MayLeave, Turned, leaves, silent}
 use Rattle.sbp_world.proofs.Agents.Management.Awaiting.{left_awaits, silent_awaits}
 use Rattle.sbp_world.proofs.Agents.Management.Calm.{ForManager, From}

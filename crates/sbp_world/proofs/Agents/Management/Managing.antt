@@ -1,38 +1,21 @@
 -- What the management agent does at a reply: its notes change the office as its step does the node, and at most one request leaves for it.
-use Rattle.std.proofs.Common.{◌≡◌, ◌∙◌, refl, sym, ap, subst, ℕ, zero, suc, ◌+◌, ◌==◌, nat_lt, is_some, Bool, true, false, cond, List, [], ◌∷◌, ◌++◌, length, Option, Some, None, Result, Ok, Err}
-use Rattle.login_table.specs.Table.{Table}
-use Rattle.mgmt_agent.specs.declared.decision.Decision.{Decision}
-use Rattle.mgmt_agent.specs.declared.decision.Effect.{Effect}
+use Rattle.sbp_world.proofs.Words.Std.{◌≡◌, ◌∙◌, refl, sym, ap, subst, ℕ, zero, suc, ◌+◌, ◌==◌, nat_lt, is_some, Bool, true, false, cond, List, [], ◌∷◌, ◌++◌, length, Option, Some, None, Result, Ok, Err}
+use Rattle.sbp_world.proofs.Words.Wire.{CutCause, Outgoing, Side, OutboxState}
+use Rattle.sbp_world.proofs.Words.Target.{Table, Decision, Effect, ManagerStep, Operation, decide, reads_eui, cut, told_cut, clear_one, cut_placed, node_decided, effect_by, failed_by, place_in, tell_left, NodeState, Scene, desk_at, login_at, scene, with_side, clear_from, clear_unit, cut_all, cut_at, cut_from, is_cut, state_in, is_reset}
+use Rattle.sbp_world.proofs.Words.Initiator.{FailCause, ManagementOrb, management_orb, Answer, payload_of, write_failure}
+use Rattle.sbp_world.proofs.Words.World.{Office, by_side, by_sides}
 use Rattle.mgmt_agent.specs.declared.decision.Effect.TheVariants as effects
-use Rattle.mgmt_agent.specs.declared.decision.ManagerStep.{ManagerStep}
 use Rattle.mgmt_agent.specs.declared.decision.Outcome.{Outcome}
-use Rattle.mgmt_agent.specs.declared.operation.Operation.{Operation}
 use Rattle.mgmt_agent.specs.declared.operation.Phase.{Phase}
 use Rattle.mgmt_agent.specs.declared.operation.Phase.TheVariants as phases
-use Rattle.mgmt_agent.specs.Decisions.{decide, reads_eui}
 use Rattle.mgmt_agent.specs.Machine as management
 use Rattle.orb_layout.specs.declared.ask.Ask.TheVariants as ask
-use Rattle.orb_layout.specs.declared.ask.FailCause.{FailCause}
-use Rattle.orb_layout.specs.declared.management.ManagementOrb.{ManagementOrb}
-use Rattle.orb_layout.specs.ManagementOrbs.{management_orb}
-use Rattle.orb_layout.specs.Replies.{Answer, payload_of, write_failure}
-use Rattle.sbp_journal.specs.declared.cause.CutCause.{CutCause}
 use Rattle.sbp_journal.specs.declared.cause.CutCause.TheVariants as cuts
-use Rattle.sbp_journal.specs.declared.outbox.Outgoing.{Outgoing}
-use Rattle.sbp_journal.specs.declared.side.Side.{Side}
 use Rattle.sbp_journal.specs.declared.side.Side.TheVariants as sides
-use Rattle.sbp_journal.specs.Outgoings.{OutboxState}
-use Rattle.sbp_target.specs.Agents.{cut, told_cut}
-use Rattle.sbp_target.specs.Management.{clear_one, cut_placed, decided_by as node_decided, effect_by, failed_by, place_in, tell_left}
-use Rattle.sbp_target.specs.Nodes.{NodeState, Scene, desk_at, login_at, scene}
-use Rattle.sbp_target.specs.Sending.{with_side}
-use Rattle.sbp_target.specs.Units.{clear_from, clear_unit, cut_all, cut_at, cut_from, is_cut}
-use Rattle.command_agent.specs.Machine.{state_in}
-use Rattle.command_agent.specs.Steps.{is_reset}
 use Rattle.sbp_target.proofs.Histories.Seats.{Lives}
 use Rattle.sbp_world.proofs.Agents.Management.Calm.{AreQuiet, Calm, From, IsQuiet, clears_from, clears_one, cuts_all, cuts_placed}
 use Rattle.sbp_world.proofs.Agents.Management.Deciding.{by_decision, by_effect}
-use Rattle.sbp_world.specs.Agents.Management.Offices.{Office, by_side, by_sides, failed}
+use Rattle.sbp_world.specs.Agents.Management.Offices.{failed}
 use Rattle.sbp_world.proofs.Agents.Management.Sides.{AllBehind, TellsBehind, behind_more, sides_more}
 
 -- ---- what is told, and what it makes of an office

@@ -1,18 +1,14 @@
 -- What each note makes of the terms of the management: notes on agents, runs and units leave it.
-use Rattle.std.proofs.Common.{◌≡◌, refl, ap, ℕ, List, Option, Some, None}
-use Rattle.std.specs.Prelude.{is_none, position}
-use Rattle.orb_layout.specs.declared.ask.FailCause.{FailCause}
+use Rattle.sbp_world.proofs.Words.Std.{◌≡◌, refl, ap, ℕ, List, Option, Some, None, is_none, position}
+use Rattle.sbp_world.proofs.Words.Wire.{Moment, Terms, Note, FunctionWord}
+use Rattle.sbp_world.proofs.Words.Target.{Told}
+use Rattle.sbp_world.proofs.Words.Initiator.{FailCause}
+use Rattle.sbp_world.proofs.Words.Laws.{Decided, Reply, Target, enters_in, entered_by, going_on, over, taken_on, target_by, is_own_run}
+use Rattle.sbp_world.proofs.Words.World.{at_rest, by_managed, by_note, office_of, placed, placed_by}
 use Rattle.orb_layout.specs.declared.ask.FailCause.TheVariants as causes
-use Rattle.rbc_disk.specs.Runs.{Told}
-use Rattle.sbp_journal.specs.Run.{Moment}
-use Rattle.sbp_journal.specs.Wire.{Terms}
-use Rattle.sbp_journal.specs.declared.note.Note.{Note}
 use Rattle.sbp_journal.specs.declared.note.Note.TheVariants as notes
-use Rattle.sbp_journal.specs.declared.operation.FunctionWord.{FunctionWord}
 use Rattle.sbp_journal.specs.declared.operation.FunctionWord.TheVariants as functions
-use Rattle.sbp_laws.specs.Targets.{Decided, Reply, Target, enters_in, entered_by, going_on, over, taken_on, target_by, is_own_run}
 use Rattle.sbp_laws.proofs.Going.{going_alone, run_alone, taken_alone}
-use Rattle.sbp_world.specs.Agents.Management.Offices.{at_rest, by_managed, by_note, office_of, placed, placed_by}
 
 -- ---- what agents do leaves it
 

@@ -1,9 +1,8 @@
 -- What an initiator tells: notes of what it does itself, which say nothing of the target and of the wire.
-use Rattle.std.proofs.Common.{◌≡◌, refl}
-use Rattle.sbp_journal.specs.Wire.{Terms, noted}
-use Rattle.sbp_journal.specs.declared.note.Note.{Note}
+use Rattle.sbp_world.proofs.Words.Std.{◌≡◌, refl}
+use Rattle.sbp_world.proofs.Words.Wire.{Terms, noted, Note}
+use Rattle.sbp_world.proofs.Words.World.{Office, by_note}
 use Rattle.sbp_journal.specs.declared.note.Note.TheVariants as notes
-use Rattle.sbp_world.specs.Agents.Management.Offices.{Office, by_note}
 use Rattle.sbp_world.proofs.Formed.{IsNoRun}
 use Rattle.sbp_world.proofs.Agents.Management.Offices.{IsBehind}
 

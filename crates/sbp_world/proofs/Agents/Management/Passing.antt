@@ -1,21 +1,11 @@
 -- Where the target has no turn, or nothing happens to its management, its terms stay its state.
-use Rattle.std.proofs.Common.{◌≡◌, ◌∙◌, refl, sym, ap, ℕ, ◌≤◌, true, false, List, ◌∷◌, Option, Some, None}
-use Rattle.bus_transactions.specs.May.{is_reset}
-use Rattle.bus_transactions.specs.Wire.{transaction}
-use Rattle.label_table.specs.Layer.{Layer}
-use Rattle.mgmt_agent.specs.Machine.{source_in}
-use Rattle.rbc_disk.specs.Disk.{Disk}
-use Rattle.sbp_journal.specs.Run.{Moment, asked, said}
-use Rattle.sbp_journal.specs.Transactions.{Kind, Transaction}
-use Rattle.sbp_journal.specs.Wire.{Terms, opened, terms, waits}
-use Rattle.sbp_journal.specs.declared.event.Event.{Event}
+use Rattle.sbp_world.proofs.Words.Std.{◌≡◌, ◌∙◌, refl, sym, ap, ℕ, ◌≤◌, true, false, List, ◌∷◌, Option, Some, None}
+use Rattle.sbp_world.proofs.Words.Wire.{is_reset, transaction, Layer, Moment, asked, said, Kind, Transaction, Terms, opened, terms, waits, Event}
+use Rattle.sbp_world.proofs.Words.Target.{source_in, Disk, Purpose, NodeState}
+use Rattle.sbp_world.proofs.Words.Laws.{target_at}
+use Rattle.sbp_world.proofs.Words.World.{Office, at_rest, office_of, Awaits, IsManagementAt}
 use Rattle.sbp_journal.specs.declared.event.Event.TheVariants as events
 use Rattle.sbp_journal.specs.declared.note.Note.TheVariants as notes
-use Rattle.sbp_laws.specs.Targets.{target_at}
-use Rattle.sbp_target.specs.declared.purpose.Purpose.{Purpose}
-use Rattle.sbp_target.specs.Nodes.{NodeState}
-use Rattle.sbp_world.specs.Agents.Management.Offices.{Office, at_rest, office_of}
-use Rattle.sbp_world.specs.Agents.Management.Terms.{Awaits, IsManagementAt}
 use Rattle.sbp_world.proofs.Agents.Management.Still.{Still}
 use Rattle.sbp_world.proofs.Lists.ManageSends.{later_ids}
 

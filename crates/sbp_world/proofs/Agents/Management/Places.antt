@@ -1,15 +1,10 @@
 -- The notes on logins change a table of logins as its calls do: each names a login by its ID, and no two have one.
-use Rattle.std.proofs.Common.{◌≡◌, ◌≢◌, ◌∙◌, refl, sym, ap, subst, ℕ, zero, suc, ◌+◌, ◌<◌, ◌≤◌, nat_eq, Bool, true, false, cond, List, [], ◌∷◌, length, map, get_or, set, get_or-set_other, Option, Some, None, arith}
-use Rattle.std.specs.List.{filter_map}
-use Rattle.std.proofs.Math.ListN.{get_or-map, length-set}
-use Rattle.std.proofs.lemmas.Bool.Decides.{nat_tests}
-use Rattle.std.proofs.lemmas.Grind.{get_or-set_at}
-use Rattle.std.proofs.lemmas.List.{ext_get_or, length-map}
-use Rattle.login_table.specs.declared.login.Login.{Login}
-use Rattle.login_table.specs.Sound.{IsSound}
-use Rattle.login_table.specs.Table.{expired_id, expired_ids, held, is_last, is_live, one_less, place_at, ticked}
+use Rattle.sbp_world.proofs.Words.Std.{◌≡◌, ◌≢◌, ◌∙◌, refl, sym, ap, subst, ℕ, zero, suc, ◌+◌, ◌<◌, ◌≤◌, nat_eq, Bool, true, false, cond, List, [], ◌∷◌, length, map, get_or, set, Option, Some, None, arith, filter_map, get_or-map, length-set, nat_tests, get_or-set_at, ext_get_or, length-map}
+use Rattle.sbp_world.proofs.Words.Target.{Login, IsSound, expired_id, expired_ids, held, is_last, is_live, one_less, place_at}
+use Rattle.sbp_world.proofs.Words.Laws.{at_id, second_gone}
+use Rattle.std.proofs.Common.{get_or-set_other}
+use Rattle.login_table.specs.Table.{ticked}
 use Rattle.login_table.proofs.Searching.{within}
-use Rattle.sbp_laws.specs.Targets.{at_id, second_gone}
 use Rattle.sbp_world.proofs.Common.{itself}
 
 -- ---- one login is changed

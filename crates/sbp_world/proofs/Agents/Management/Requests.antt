@@ -1,33 +1,17 @@
 -- What a request of the operation is on the wire: a request under its label, that the terms take for the operation's.
-use Rattle.std.proofs.Common.{arith, ◌≡◌, ◌∙◌, refl, sym, ap, subst, ℕ, ◌^◌, ◌<◌, ◌==◌, nat_le, Bool, true, false, cond, List, [], length, Option, Some, None, Result, Ok}
-use Rattle.async_packet.specs.Canon.{IsValid, canon}
-use Rattle.async_packet.specs.Fields.{largest}
-use Rattle.async_packet.specs.Packet.{Packet}
-use Rattle.async_packet.specs.Reading.{reading}
-use Rattle.async_packet.specs.declared.fault.PacketFault.{PacketFault}
-use Rattle.bus_transactions.specs.Fitting.{FitsRequest}
+use Rattle.sbp_world.proofs.Words.Std.{arith, ◌≡◌, ◌∙◌, refl, sym, ap, subst, ℕ, ◌^◌, ◌<◌, ◌==◌, nat_le, Bool, true, false, cond, List, [], length, Option, Some, None, Result, Ok}
+use Rattle.sbp_world.proofs.Words.Wire.{IsValid, canon, largest, Packet, reading, PacketFault, FitsRequest, Asked, Body, block_read, block_write, header_to, quadlet_read, quadlet_write, request_with, Layer, asked_at, asking_in, asking_step, peer_at, peer_place, unlabelled, begun_for, with_label, begin_at, begin_step, lowest_from, Kind, is_same_kind, locking, part_in, part_of, reading_block, reading_quadlet, request, writing, relabelled}
+use Rattle.sbp_world.proofs.Words.Target.{Purpose, agent_body, manager_body}
+use Rattle.sbp_world.proofs.Words.Initiator.{Ask}
+use Rattle.sbp_world.proofs.Words.Laws.{access_in, access_in_bytes, spelled_by, is_write_access, wants}
 use Rattle.bus_transactions.proofs.Fits.{request_fits}
 use Rattle.bus_transactions.proofs.PacketParts.{part_read}
-use Rattle.label_table.specs.declared.judgement.Asked.{Asked}
-use Rattle.label_table.specs.Bodies.{Body, block_read, block_write, header_to, quadlet_read, quadlet_write, request_with}
-use Rattle.label_table.specs.Layer.{Layer, asked_at, asking_in, asking_step, peer_at, peer_place, unlabelled}
-use Rattle.label_table.specs.Peers.{begun_for}
-use Rattle.label_table.specs.Requests.{with_label}
-use Rattle.label_table.specs.Table.{begin_at, begin_step, lowest_from}
 use Rattle.label_table.proofs.Calls.{after_kept}
-use Rattle.orb_layout.specs.declared.ask.Ask.{Ask}
 use Rattle.orb_layout.specs.declared.ask.Ask.TheVariants as ask
-use Rattle.sbp_journal.specs.Transactions.{Kind, is_same_kind, locking, part_in, part_of, reading_block, reading_quadlet, request, writing}
-use Rattle.sbp_laws.specs.Packets.{access_in, access_in_bytes, spelled_by}
-use Rattle.sbp_laws.specs.Targets.{is_write_access, wants}
-use Rattle.sbp_target.specs.declared.purpose.Purpose.{Purpose}
-use Rattle.sbp_target.specs.Agents.{agent_body}
-use Rattle.sbp_target.specs.Management.{manager_body}
 use Rattle.sbp_target.proofs.Histories.Primitives.{Known}
 use Rattle.sbp_target.proofs.Histories.Seats.{Lives}
 use Rattle.async_packet.proofs.RoundTrip.{canon_spells}
 use Rattle.async_packet.proofs.Spelled.{reading_spelled}
-use Rattle.label_table.specs.Laws.{relabelled}
 use Rattle.label_table.proofs.Rewritten.{writes_labels}
 use Rattle.label_table.proofs.Steps.{lowest_below}
 

@@ -1,22 +1,13 @@
 -- What a target tells at a reset, at a second and of a key, and that its logins are then as these notes say.
-use Rattle.std.proofs.Common.{◌≡◌, ◌∙◌, refl, sym, ap, subst, ℕ, zero, suc, ◌+◌, ◌<◌, Bool, true, false, cond, List, [], ◌∷◌, length, map, get_or, Option, Some, None, arith}
-use Rattle.std.specs.Prelude.{slice_index_or}
-use Rattle.label_table.specs.Layer.{Layer, seeing_step}
-use Rattle.login_table.specs.declared.login.Login.{Login}
-use Rattle.login_table.specs.Sound.{IsSound}
-use Rattle.login_table.specs.Table.{Table, expired_ids, held, is_live, place_at, ticked as login_ticked}
+use Rattle.sbp_world.proofs.Words.Std.{◌≡◌, ◌∙◌, refl, sym, ap, subst, ℕ, zero, suc, ◌+◌, ◌<◌, Bool, true, false, cond, List, [], ◌∷◌, length, map, get_or, Option, Some, None, arith, slice_index_or}
+use Rattle.sbp_world.proofs.Words.Wire.{Layer, seeing_step, OutboxState, empty_outbox}
+use Rattle.sbp_world.proofs.Words.Target.{Login, IsSound, Table, expired_ids, held, is_live, place_at, login_ticked, Purpose, NodeState, Scene, scene, cleared_node, expired_from, held_from, reset_by, seen, tell_held, target_ticked, with_side, cut_all}
+use Rattle.sbp_world.proofs.Words.Laws.{at_id, second_gone}
+use Rattle.sbp_world.proofs.Words.World.{Agrees, Office, by_side, cleared, ticked}
 use Rattle.mgmt_agent.specs.Machine as management
 use Rattle.sbp_journal.specs.declared.cause.CutCause.TheVariants as cuts
 use Rattle.sbp_journal.specs.declared.side.Side.TheVariants as sides
-use Rattle.sbp_journal.specs.Outgoings.{OutboxState, empty_outbox}
-use Rattle.sbp_laws.specs.Targets.{at_id, second_gone}
-use Rattle.sbp_target.specs.declared.purpose.Purpose.{Purpose}
-use Rattle.sbp_target.specs.Nodes.{NodeState, Scene, scene}
-use Rattle.sbp_target.specs.Receiving.{cleared_node, expired_from, held_from, reset_by, seen, tell_held, ticked as target_ticked}
-use Rattle.sbp_target.specs.Sending.{with_side}
-use Rattle.sbp_target.specs.Units.{cut_all}
 use Rattle.sbp_target.proofs.Histories.Seats.{Lives}
-use Rattle.sbp_world.specs.Agents.Management.Offices.{Agrees, Office, by_side, cleared, ticked}
 use Rattle.sbp_world.proofs.Agents.Management.Calm.{Calm, From, cuts_all}
 use Rattle.sbp_world.proofs.Agents.Management.Managing.{Says, quiet_says, says_more}
 use Rattle.sbp_world.proofs.Agents.Management.Places.{all_held, all_ticked, expires, holds, holds_from}

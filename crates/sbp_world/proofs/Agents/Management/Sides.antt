@@ -1,8 +1,8 @@
 -- What is told, and what it makes of an office.
-use Rattle.std.proofs.Common.{◌≡◌, refl, List, [], ◌∷◌, ◌++◌}
-use Rattle.sbp_journal.specs.declared.side.Side.{Side}
+use Rattle.sbp_world.proofs.Words.Std.{◌≡◌, refl, List, [], ◌∷◌, ◌++◌}
+use Rattle.sbp_world.proofs.Words.Wire.{Side}
+use Rattle.sbp_world.proofs.Words.World.{Office, by_side, by_sides}
 use Rattle.sbp_journal.specs.declared.side.Side.TheVariants as sides
-use Rattle.sbp_world.specs.Agents.Management.Offices.{Office, by_side, by_sides}
 
 pub sides_more : (told : List Side) (side : Side) (o : Office) → by_sides (told ++ side ∷ []) o ≡ by_side side (by_sides told o)
 sides_more [] side o = refl

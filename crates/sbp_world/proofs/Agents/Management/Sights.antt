@@ -1,39 +1,18 @@
 -- The target sees a generation, a second passes, a unit gets a key: the terms of the target's management stay its state.
-use Rattle.std.proofs.Common.{arith, ◌≡◌, ◌∙◌, refl, sym, ap, subst, ℕ, zero, suc, ◌-◌, ◌<◌, ◌≤◌, not, nat_eq, nat_lt, Bool, true, false, cond, List, ◌∷◌, length, None}
-use Rattle.std.specs.Prelude.{if◌then◌else◌, slice_set}
-use Rattle.std.proofs.lemmas.Bool.Decides.{nat_tests}
-use Rattle.bus_transactions.specs.Wire.{Node}
-use Rattle.label_table.specs.Layer.{Layer, seeing_step, seen_in_generation}
-use Rattle.mgmt_agent.specs.Machine.{Machine, source_in}
-use Rattle.orb_layout.specs.declared.ask.Ask.TheVariants.{Nothing}
-use Rattle.rbc_disk.specs.Disk.{Disk}
-use Rattle.sbp_initiator.specs.Effects.{Turn}
-use Rattle.sbp_initiator.specs.Seeing.{see_step}
-use Rattle.sbp_journal.specs.Outgoings.{empty_outbox}
-use Rattle.sbp_journal.specs.Run.{Moment, asked, said}
-use Rattle.sbp_journal.specs.Wire.{Terms, terms}
+use Rattle.sbp_world.proofs.Words.Std.{arith, ◌≡◌, ◌∙◌, refl, sym, ap, subst, ℕ, zero, suc, ◌-◌, ◌<◌, ◌≤◌, not, nat_eq, nat_lt, Bool, true, false, cond, List, ◌∷◌, length, None, if◌then◌else◌, slice_set, nat_tests}
+use Rattle.sbp_world.proofs.Words.Wire.{Node, Layer, seeing_step, seen_in_generation, empty_outbox, Moment, asked, said, Terms, terms, id_of}
+use Rattle.sbp_world.proofs.Words.Target.{source_in, Disk, Purpose, NodeState, Scene, scene, reset_by, seen, ticked, with_key, Call, after, sees_call, sets_key, ticks}
+use Rattle.sbp_world.proofs.Words.Initiator.{Nothing, Turn, see_step}
+use Rattle.sbp_world.proofs.Words.Laws.{key_by, target_at, event_of}
+use Rattle.sbp_world.proofs.Words.World.{handed_out, keyed, no_unit, handed_all, initiator_learns, see_line, sees, target_learns, target_sees, target_ticks, tick_line, told_seen, with_seen, refused, WorldState, initiator_at, with_initiator, with_note, with_target, Stands, Agrees, Office, at_rest, cleared, office_of, office_ticked, office_key, Awaits, IsManagementAt}
+use Rattle.mgmt_agent.specs.Machine.{Machine}
 use Rattle.sbp_journal.specs.declared.event.Event.TheVariants as events
 use Rattle.sbp_journal.specs.declared.note.Note.TheVariants as notes
-use Rattle.sbp_laws.specs.Targets.{key_by, target_at}
-use Rattle.sbp_laws.specs.Turns.{event_of}
-use Rattle.sbp_target.specs.declared.purpose.Purpose.{Purpose}
-use Rattle.sbp_target.specs.Nodes.{NodeState, Scene, scene}
-use Rattle.sbp_target.specs.Receiving.{reset_by, seen, ticked, with_key}
-use Rattle.sbp_bus.specs.Generations.{id_of}
-use Rattle.sbp_world.specs.Handing.{handed_out}
-use Rattle.sbp_world.specs.Lines.{keyed, no_unit}
-use Rattle.sbp_world.specs.Nodes.{handed_all, initiator_learns, see_line, sees, target_learns, target_sees, target_ticks, tick_line, told_seen, with_seen}
-use Rattle.sbp_world.specs.Packets.{refused}
-use Rattle.sbp_world.specs.Worlds.{WorldState, initiator_at, with_initiator, with_note, with_target}
-use Rattle.sbp_target.specs.Calls.{Call, after, sees as sees_call, sets_key, ticks}
 use Rattle.sbp_target.proofs.Histories.Calling.{Good}
-use Rattle.sbp_world.specs.Wire.Wires.{Stands}
 use Rattle.sbp_world.proofs.Wire.Bus.{aged, holds}
 use Rattle.sbp_world.proofs.Wire.Holding.{Sound}
 use Rattle.sbp_world.proofs.Wire.Nodes.{handed_alike}
 use Rattle.sbp_world.proofs.Wire.Starts.{laws_of}
-use Rattle.sbp_world.specs.Agents.Management.Offices.{Agrees, Office, at_rest, cleared, office_of, ticked as office_ticked, with_key as office_key}
-use Rattle.sbp_world.specs.Agents.Management.Terms.{Awaits, IsManagementAt}
 use Rattle.sbp_world.proofs.Agents.Management.Calls.{forgets_if}
 use Rattle.sbp_world.proofs.Agents.Management.Firsts.{other_sight, sight_office, tick_office}
 use Rattle.sbp_world.proofs.Agents.Management.Hands.{own_turn}

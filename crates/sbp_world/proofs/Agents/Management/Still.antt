@@ -1,22 +1,12 @@
 -- The transactions of the target that are under way stay so while packets leave, and while other nodes hear what is theirs.
-use Rattle.std.proofs.Common.{◌≡◌, ◌∙◌, refl, sym, ap, subst, ℕ, ◌+◌, ◌≤◌, ◌||◌, not, nat_eq, Bool, true, false, cond, List, [], ◌∷◌, ◌++◌, map, Option, Some, None, arith}
-use Rattle.async_packet.specs.Fields.{rcode_of}
-use Rattle.async_packet.specs.Labels.{LabelParts}
-use Rattle.bus_transactions.specs.Sent.{AreSent}
+use Rattle.sbp_world.proofs.Words.Std.{◌≡◌, ◌∙◌, refl, sym, ap, subst, ℕ, ◌+◌, ◌≤◌, ◌||◌, not, nat_eq, Bool, true, false, cond, List, [], ◌∷◌, ◌++◌, map, Option, Some, None, arith}
+use Rattle.sbp_world.proofs.Words.Wire.{rcode_of, LabelParts, AreSent, transaction, is_last, is_write, Moment, said, Kind, Part, Sending, Transaction, asked_by, begun_by, between, is_same, is_same_kind, part_of, request, response, Held, Owed, Terms, arrives, asked_in, begins, closes, closes_if, free, gets, gets_as, gives, ignores, ignores_that, is_news, is_served, judges, judges_if, kind_in, pays, puts, rests, sends, terms, times_out, waits, Cause, Outgoing, node_of, topology_at}
+use Rattle.sbp_world.proofs.Words.World.{asked, posted, sent, sent_all, sent_to, WorldState}
 use Rattle.bus_transactions.specs.Sent as sent_law
-use Rattle.bus_transactions.specs.Wire.{transaction}
 use Rattle.bus_transactions.proofs.Facts.{asked_is, begun_asked}
 use Rattle.bus_transactions.proofs.PacketParts.{other_requester, same_is}
-use Rattle.label_table.specs.Requests.{is_last, is_write}
-use Rattle.sbp_journal.specs.Run.{Moment, said}
-use Rattle.sbp_journal.specs.Transactions.{Kind, Part, Sending, Transaction, asked_by, begun_by, between, is_same, is_same_kind, no_packet, part_of, request, response}
-use Rattle.sbp_journal.specs.Wire.{Held, Owed, Terms, arrives, asked_in, begins, closes, closes_if, free, gets, gets_as, gives, ignores, ignores_that, is_news, is_served, judges, judges_if, kind_in, pays, puts, rests, sends, terms, times_out, waits}
-use Rattle.sbp_journal.specs.declared.cause.Cause.{Cause}
+use Rattle.sbp_journal.specs.Transactions.{no_packet}
 use Rattle.sbp_journal.specs.declared.cause.Cause.TheVariants as causes
-use Rattle.sbp_journal.specs.declared.outbox.Outgoing.{Outgoing}
-use Rattle.sbp_bus.specs.Generations.{node_of, topology_at}
-use Rattle.sbp_world.specs.Sending.{asked, posted, sent, sent_all, sent_to}
-use Rattle.sbp_world.specs.Worlds.{WorldState}
 use Rattle.sbp_world.proofs.Common.{and_first}
 use Rattle.sbp_world.proofs.Hosts.Held.{pays_held}
 use Rattle.sbp_world.proofs.Wire.Bus.{pays_ids, begins_ids}

@@ -1,24 +1,13 @@
 -- What a node tells changes the terms as its notes do, and what leaves it changes nothing of the management where that asks for nothing.
-use Rattle.std.proofs.Common.{◌≡◌, ◌∙◌, refl, ap, ℕ, ◌+◌, ◌==◌, Bool, true, false, cond, List, [], ◌∷◌, ◌++◌, map, Option, Some, None}
-use Rattle.std.specs.Prelude.{position}
-use Rattle.async_packet.specs.Labels.{LabelParts}
-use Rattle.orb_layout.specs.declared.ask.Ask.TheVariants.{Nothing}
-use Rattle.rbc_disk.specs.Disk.{Disk}
-use Rattle.sbp_journal.specs.Run.{Moment, said}
-use Rattle.sbp_journal.specs.Transactions.{Part, request, response, no_packet, part_of}
-use Rattle.sbp_journal.specs.declared.note.Note.{Note}
+use Rattle.sbp_world.proofs.Words.Std.{◌≡◌, ◌∙◌, refl, ap, ℕ, ◌+◌, ◌==◌, Bool, true, false, cond, List, [], ◌∷◌, ◌++◌, map, Option, Some, None, position}
+use Rattle.sbp_world.proofs.Words.Wire.{LabelParts, Moment, said, Part, request, response, part_of, Note, Outgoing, Side, node_of, function_word, login_if}
+use Rattle.sbp_world.proofs.Words.Target.{Disk}
+use Rattle.sbp_world.proofs.Words.Initiator.{Nothing}
+use Rattle.sbp_world.proofs.Words.Laws.{access_in_bytes, Target, is_write_access, known_at, sent_as, sent_for, taken_on, target_at, wants, wants_it}
+use Rattle.sbp_world.proofs.Words.World.{asked, posted, sent, sent_all, sent_to, holder, initiator_of, told, told_all, WorldState, with_note, Office, by_note, by_side, by_sides, office_of}
+use Rattle.sbp_journal.specs.Transactions.{no_packet}
 use Rattle.sbp_journal.specs.declared.note.Note.TheVariants as notes
-use Rattle.sbp_journal.specs.declared.outbox.Outgoing.{Outgoing}
-use Rattle.sbp_journal.specs.declared.side.Side.{Side}
 use Rattle.sbp_journal.specs.declared.side.Side.TheVariants as sides
-use Rattle.sbp_laws.specs.Packets.{access_in_bytes}
-use Rattle.sbp_laws.specs.Targets.{Target, is_write_access, known_at, sent_as, sent_for, taken_on, target_at, wants, wants_it}
-use Rattle.sbp_bus.specs.Generations.{node_of}
-use Rattle.sbp_world.specs.Sending.{asked, posted, sent, sent_all, sent_to}
-use Rattle.sbp_world.specs.Telling.{holder, initiator_of, told, told_all}
-use Rattle.sbp_bus.specs.Words.{function_word, login_if}
-use Rattle.sbp_world.specs.Worlds.{WorldState, with_note}
-use Rattle.sbp_world.specs.Agents.Management.Offices.{Office, by_note, by_side, by_sides, office_of}
 use Rattle.sbp_world.proofs.Agents.Management.Offices.{IsBehind, note_changes, taken_keeps}
 use Rattle.sbp_world.proofs.Agents.Management.Sides.{AllBehind, TellsBehind}
 

@@ -1,36 +1,14 @@
 -- The end of a turn of the target: its terms are again its state.
-use Rattle.std.proofs.Common.{arith, ◌≡◌, ◌∙◌, refl, sym, ap, subst, ℕ, ◌+◌, ◌<◌, false, cond, List, ◌∷◌, Option, Some, None, Result, Ok, Err}
-use Rattle.async_packet.specs.Labels.{LabelParts}
-use Rattle.bus_transactions.specs.Packets.{SerialsCount}
-use Rattle.bus_transactions.specs.Sent.{AreSent}
-use Rattle.bus_transactions.specs.Wire.{transaction}
+use Rattle.sbp_world.proofs.Words.Std.{arith, ◌≡◌, ◌∙◌, refl, sym, ap, subst, ℕ, ◌+◌, ◌<◌, false, cond, List, ◌∷◌, Option, Some, None, Result, Ok, Err}
+use Rattle.sbp_world.proofs.Words.Wire.{LabelParts, SerialsCount, AreSent, transaction, Asked, NoLabel, Body, Layer, asked_at, asking_in, asking_step, peer_at, peer_place, unlabelled, PeerPlace, ask_place, Moment, said, Kind, Sending, Transaction, begun_by, between, part_of, request, Owed, Terms, asked_in, begins, kind_in, pays, puts, sends, terms, waits, OutboxState, node_of, topology_at}
+use Rattle.sbp_world.proofs.Words.Target.{source_in, Disk, Purpose, NodeState, scene, request_packet, IsUnderWay, TransactionLaw}
+use Rattle.sbp_world.proofs.Words.World.{handed_out, asked, posted, sent, sent_to, WorldState, Office, at_rest, Awaits, IsManagementAt}
 use Rattle.bus_transactions.proofs.Facts.{asked_begun, request_asked}
 use Rattle.bus_transactions.proofs.PacketParts.{same_refl}
-use Rattle.label_table.specs.declared.judgement.Asked.{Asked}
-use Rattle.label_table.specs.declared.reply.NoLabel.{NoLabel}
-use Rattle.label_table.specs.Bodies.{Body}
-use Rattle.label_table.specs.Layer.{Layer, asked_at, asking_in, asking_step, peer_at, peer_place, unlabelled}
-use Rattle.label_table.specs.Peers.{PeerPlace, ask_place}
-use Rattle.mgmt_agent.specs.Machine.{source_in}
-use Rattle.rbc_disk.specs.Disk.{Disk}
-use Rattle.sbp_journal.specs.Run.{Moment, said}
-use Rattle.sbp_journal.specs.Transactions.{Kind, Sending, Transaction, begun_by, between, part_of, request}
-use Rattle.sbp_journal.specs.Wire.{Owed, Terms, asked_in, begins, kind_in, pays, puts, sends, terms, waits}
 use Rattle.sbp_journal.specs.declared.note.Note.TheVariants as notes
 use Rattle.sbp_journal.specs.declared.note.Note.TheVariants as notes
-use Rattle.sbp_journal.specs.Outgoings.{OutboxState}
-use Rattle.sbp_target.specs.declared.purpose.Purpose.{Purpose}
 use Rattle.sbp_target.specs.declared.purpose.Purpose.TheVariants as purposes
-use Rattle.sbp_target.specs.Nodes.{NodeState, scene}
-use Rattle.sbp_bus.specs.Generations.{node_of, topology_at}
-use Rattle.sbp_world.specs.Handing.{handed_out}
-use Rattle.sbp_world.specs.Sending.{asked, posted, sent, sent_to}
-use Rattle.sbp_world.specs.Worlds.{WorldState}
-use Rattle.sbp_target.specs.Histories.Layers.{request as request_packet}
-use Rattle.sbp_target.specs.Histories.Transactions.{IsUnderWay, TransactionLaw}
 use Rattle.sbp_target.proofs.Histories.Calling.{Good}
-use Rattle.sbp_world.specs.Agents.Management.Offices.{Office, at_rest}
-use Rattle.sbp_world.specs.Agents.Management.Terms.{Awaits, IsManagementAt}
 use Rattle.sbp_world.proofs.Agents.Management.Awaiting.{HasLeft, Keeps, calm_awaits}
 use Rattle.sbp_world.proofs.Agents.Management.Calm.{Calm, From}
 use Rattle.sbp_world.proofs.Agents.Management.Outs.{quiet_out}

@@ -1,25 +1,14 @@
 -- An action, and what the lines of a run carry on of the slots of an initiator.
-use Rattle.std.proofs.Common.{◌≡◌, refl, sym, ◌∙◌, ap, subst, ℕ, suc, true, false, List, [], ◌∷◌, Option, Some, None}
-use Rattle.label_table.specs.declared.judgement.Asked.{Asked}
-use Rattle.label_table.specs.Layer.{Layer}
+use Rattle.sbp_world.proofs.Words.Std.{◌≡◌, refl, sym, ◌∙◌, ap, subst, ℕ, suc, true, false, List, [], ◌∷◌, Option, Some, None}
+use Rattle.sbp_world.proofs.Words.Wire.{Asked, Layer, OutboxState, empty_outbox, Moment, said, Action}
+use Rattle.sbp_world.proofs.Words.Initiator.{Purpose, InitiatorState, act_step, asked_as, asked_for, done_step, facts_with, judged_as, manage_demand, Turn, refusal}
+use Rattle.sbp_world.proofs.Words.Laws.{event_of}
+use Rattle.sbp_world.proofs.Words.World.{Listed, Pinned, behind, AreRows, is_abort, IsNoAbort, IsHost}
 use Rattle.orb_list.specs.Table as table
-use Rattle.sbp_journal.specs.Outgoings.{OutboxState, empty_outbox}
-use Rattle.sbp_journal.specs.Run.{Moment, said}
-use Rattle.sbp_journal.specs.declared.event.Action.{Action}
 use Rattle.sbp_journal.specs.declared.event.Action.TheVariants as actions
 use Rattle.sbp_journal.specs.declared.event.Event.TheVariants as events
 use Rattle.sbp_journal.specs.declared.note.Note.TheVariants as notes
-use Rattle.sbp_initiator.specs.declared.purpose.Purpose.{Purpose}
-use Rattle.sbp_initiator.specs.declared.state.InitiatorState.{InitiatorState}
-use Rattle.sbp_initiator.specs.Acting.{act_step, asked_as, asked_for, done_step, facts_with, judged_as, manage_demand}
-use Rattle.sbp_initiator.specs.Effects.{Turn}
-use Rattle.sbp_initiator.specs.Refusals.{refusal}
-use Rattle.sbp_laws.specs.Turns.{event_of}
-use Rattle.sbp_world.specs.Hosts.Calls.{Left, Listed, Pinned, behind}
-use Rattle.sbp_world.specs.Hosts.Fits.{AreRows}
-use Rattle.sbp_world.specs.Hosts.Lines.{is_abort}
-use Rattle.sbp_world.specs.Hosts.Steps.{IsNoAbort}
-use Rattle.sbp_world.specs.Hosts.Worlds.{IsHost}
+use Rattle.sbp_world.specs.Hosts.Calls.{Left}
 use Rattle.sbp_world.proofs.Hosts.Acts.{act_left}
 use Rattle.sbp_world.proofs.Hosts.Beside.{pin_told, sent_rests}
 use Rattle.sbp_world.proofs.Hosts.Carries.{Carries, Does}

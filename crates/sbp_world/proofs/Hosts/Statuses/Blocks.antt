@@ -1,21 +1,11 @@
 -- What the bytes of a status block spell.
-use Rattle.std.proofs.Common.{arith, ◌≡◌, refl, sym, ◌∙◌, ap, subst, ℕ, ◌/◌, ◌^◌, ◌&&◌, ◌||◌, nat_eq, nat_le, nat_lt, Bool, true, false, cond, List, [], length, Option, Some, None, Result, Ok, Err}
-use Rattle.std.proofs.lemmas.Bool.Decides.{nat_tests}
-use Rattle.sbp_base.specs.Quadlets.{quad}
+use Rattle.sbp_world.proofs.Words.Std.{arith, ◌≡◌, refl, sym, ◌∙◌, ap, subst, ℕ, ◌/◌, ◌^◌, ◌&&◌, ◌||◌, nat_eq, nat_le, nat_lt, Bool, true, false, cond, List, [], length, Option, Some, None, Result, Ok, Err, nat_tests, quad}
+use Rattle.sbp_world.proofs.Words.Wire.{Moment}
+use Rattle.sbp_world.proofs.Words.Target.{is_block, Sense}
+use Rattle.sbp_world.proofs.Words.Initiator.{slot_of, start, window_at, is_managed_orb, names_place, OrbFault, StatusBlock, StatusKind, offset_at, command_kind, has, illegal_meanings, in_row, is_among, is_check_part, is_management, kind_of, read_block, sbp_status_of, sense_of, src_of, whole_length}
+use Rattle.sbp_world.proofs.Words.Laws.{named_in, if_waits, taking_of}
 use Rattle.bus_memory.specs.declared.window.Window.TheVariants as windows
-use Rattle.bus_memory.specs.Windows.{slot_of, start, window_at}
-use Rattle.initiator_base.specs.Places.{is_managed_orb, names_place}
-use Rattle.media_bay.specs.Unsolicited.{is_block}
-use Rattle.orb_layout.specs.declared.fault.OrbFault.{OrbFault}
-use Rattle.orb_layout.specs.declared.status.StatusBlock.{StatusBlock}
-use Rattle.orb_layout.specs.declared.status.StatusKind.{StatusKind}
 use Rattle.orb_layout.specs.declared.status.StatusKind.TheVariants as kinds
-use Rattle.orb_layout.specs.Pointers.{offset_at}
-use Rattle.orb_layout.specs.StatusBlocks.{command_kind, has, illegal_meanings, in_row, is_among, is_check_part, is_management, kind_of, read_block, sbp_status_of, sense_of, src_of, whole_length}
-use Rattle.rbc_command.specs.declared.sense.Sense.{Sense}
-use Rattle.sbp_journal.specs.Run.{Moment}
-use Rattle.sbp_laws.specs.Lists.{named_in}
-use Rattle.sbp_laws.specs.StatusLaw.{if_waits, taking_of}
 use Rattle.sbp_world.proofs.Common.{and_second, untrue}
 use Rattle.sbp_world.proofs.Hosts.Brings.{pick_read}
 

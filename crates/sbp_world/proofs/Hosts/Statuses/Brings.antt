@@ -1,45 +1,19 @@
 -- What a request that an initiator gets brings: the status that is due, or none.
-use Rattle.std.proofs.Common.{arith, ◌≡◌, refl, sym, ◌∙◌, ap, subst, ◌⊎◌, inl, inr, ℕ, ◌-◌, ◌^◌, ◌≤◌, ◌&&◌, ◌||◌, nat_eq, nat_lt, not, is_some, Bool, true, false, cond, List, [], ◌∷◌, length, Option, Some, None, Result, Ok, Err}
-use Rattle.std.proofs.lemmas.Bool.Decides.{nat_tests}
-use Rattle.std.specs.List.{AllByRecursion}
-use Rattle.async_packet.specs.Packet.{Packet, lock, lock_response, read_block as reads_block, read_block_response, read_quadlet, read_quadlet_response, write_block, write_quadlet, write_response}
+use Rattle.sbp_world.proofs.Words.Std.{arith, ◌≡◌, refl, sym, ◌∙◌, ap, subst, ◌⊎◌, inl, inr, ℕ, ◌-◌, ◌^◌, ◌≤◌, ◌&&◌, ◌||◌, nat_eq, nat_lt, not, is_some, Bool, true, false, cond, List, [], ◌∷◌, length, Option, Some, None, Result, Ok, Err, nat_tests, AllByRecursion}
+use Rattle.sbp_world.proofs.Words.Wire.{Packet, lock, lock_response, reads_block, read_block_response, read_quadlet, read_quadlet_response, write_block, write_quadlet, write_response, Access, access_of, Judging, ignored_as, judging_of, serving, telling, Moment, Cause, Note}
+use Rattle.sbp_world.proofs.Words.Target.{is_block}
+use Rattle.sbp_world.proofs.Words.Initiator.{is_fifo, slot_of, start, Fifo, fifo_at, is_login_fifo, is_open_login, names_place, place_fifo, OrbFault, StatusBlock, StatusKind, is_management, read_block, ListState, take_lists, slot_in, waiting, TicketParts, is_out_seat, InitiatorState, answer_of, status_in, facts_at, fifo_for, is_awaited, is_awaited_by, is_read, judging_for, note_of, waits_there, block_note, block_notes, brought, brought_by, nothing, taken_of, unsolicited, waiting_at}
+use Rattle.sbp_world.proofs.Words.Laws.{Orb, named_in, slot_at, waits_in, if_waits, taking_by, taking_of, login_fifo}
+use Rattle.sbp_world.proofs.Words.World.{AreRows, name, is_place_fifo}
 use Rattle.bus_memory.proofs.Found.{slot_of_law}
 use Rattle.bus_memory.specs.declared.window.Window.TheVariants as windows
-use Rattle.bus_memory.specs.Windows.{is_fifo, slot_of, start}
-use Rattle.initiator_base.specs.declared.fifos.Fifo.{Fifo}
 use Rattle.initiator_base.specs.declared.fifos.Fifo.TheVariants as fifos
-use Rattle.initiator_base.specs.Fifos.{fifo_at, is_login_fifo, is_open_login}
-use Rattle.initiator_base.specs.Places.{names_place, place_fifo}
-use Rattle.media_bay.specs.Unsolicited.{is_block}
-use Rattle.orb_layout.specs.declared.fault.OrbFault.{OrbFault}
-use Rattle.orb_layout.specs.declared.status.StatusBlock.{StatusBlock}
-use Rattle.orb_layout.specs.declared.status.StatusKind.{StatusKind}
 use Rattle.orb_layout.specs.declared.status.StatusKind.TheVariants as kinds
-use Rattle.orb_layout.specs.StatusBlocks.{is_management, read_block}
-use Rattle.orb_list.specs.Lists.{ListState, take_lists}
-use Rattle.orb_list.specs.Table.{slot_in, waiting}
-use Rattle.orb_list.specs.Tickets.{TicketParts}
-use Rattle.sbp_journal.specs.Addresses.{Access, access_of}
-use Rattle.sbp_journal.specs.Rows.{Judging, ignored_as, judging_of, serving, telling}
-use Rattle.sbp_journal.specs.Run.{Moment}
-use Rattle.sbp_journal.specs.declared.cause.Cause.{Cause}
 use Rattle.sbp_journal.specs.declared.cause.Cause.TheVariants as causes
 use Rattle.sbp_journal.specs.declared.cause.Judged.TheVariants as judgements
-use Rattle.sbp_journal.specs.declared.note.Note.{Note}
 use Rattle.sbp_journal.specs.declared.note.Note.TheVariants as notes
-use Rattle.sbp_session.specs.Seats.{is_out_seat}
-use Rattle.sbp_initiator.specs.declared.state.InitiatorState.{InitiatorState}
-use Rattle.sbp_initiator.specs.Receiving.{answer_of}
-use Rattle.sbp_initiator.specs.States.{status_in}
-use Rattle.sbp_laws.specs.Lists.{Orb, named_in, slot_at, waits_in}
-use Rattle.sbp_laws.specs.StatusLaw.{if_waits, taking_by, taking_of}
-use Rattle.sbp_laws.specs.Targets.{login_fifo}
-use Rattle.sbp_initiator.specs.Histories.Judging.{facts_at, fifo_for, is_awaited, is_awaited_by, is_read, judging_for, note_of, waits_in as waits_there}
-use Rattle.sbp_initiator.specs.Histories.Taking.{block_note, block_notes, brought, brought_by, nothing, read_as, taken_by, taken_of, unsolicited, waiting_at}
-use Rattle.sbp_world.specs.Hosts.Fits.{AreRows}
-use Rattle.sbp_world.specs.Hosts.Rows.{name}
+use Rattle.sbp_initiator.specs.Histories.Taking.{read_as, taken_by}
 use Rattle.sbp_world.proofs.Hosts.Answering.{no_fifo, some_fifo}
-use Rattle.sbp_world.specs.Hosts.Statuses.Taking.{is_place_fifo}
 use Rattle.sbp_world.proofs.Hosts.Statuses.Blocks.{command_is, managed_kind, placed_none, unsolicited_none}
 use Rattle.sbp_world.proofs.Hosts.Statuses.Folds.{is_calm}
 use Rattle.sbp_world.proofs.Hosts.Statuses.Waits.{place, prepared, waits_so}

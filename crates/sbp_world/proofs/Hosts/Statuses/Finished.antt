@@ -1,27 +1,13 @@
 -- In every finished history each turn takes exactly the statuses that are due.
-use Rattle.std.proofs.Common.{arith, ◌≡◌, refl, sym, ◌∙◌, ap, ℕ, zero, suc, ◌<◌, ◌≤◌, nat_eq, Bool, true, false, cond, List, [], ◌∷◌, ◌++◌, Option, Some, None, Result, Ok, Err, append_assoc}
-use Rattle.std.proofs.lemmas.Bool.Decides.{nat_tests}
-use Rattle.std.specs.List.{AllByRecursion}
-use Rattle.orb_layout.specs.declared.fault.OrbFault.{OrbFault}
-use Rattle.orb_layout.specs.declared.status.StatusBlock.{StatusBlock}
-use Rattle.orb_layout.specs.declared.status.StatusKind.{StatusKind}
-use Rattle.orb_layout.specs.StatusBlocks.{read_block}
-use Rattle.sbp_journal.specs.Addresses.{Access}
-use Rattle.sbp_journal.specs.Run.{Moment, asked, said}
-use Rattle.sbp_journal.specs.Wire.{terms}
-use Rattle.sbp_journal.specs.declared.note.Note.{Note}
+use Rattle.sbp_world.proofs.Words.Std.{arith, ◌≡◌, refl, sym, ◌∙◌, ap, ℕ, zero, suc, ◌<◌, ◌≤◌, nat_eq, Bool, true, false, cond, List, [], ◌∷◌, ◌++◌, Option, Some, None, Result, Ok, Err, append_assoc, nat_tests, AllByRecursion}
+use Rattle.sbp_world.proofs.Words.Wire.{Access, Moment, asked, said, terms, Note}
+use Rattle.sbp_world.proofs.Words.Initiator.{OrbFault, StatusBlock, StatusKind, read_block}
+use Rattle.sbp_world.proofs.Words.Laws.{Orb, named, waits_in, access_at, receiver_in, Taking, TakesEach, if_waits, taking_at, taking_by, taking_of, takings_in, takes, EachMoment, EachTurn, EachTurnBefore}
+use Rattle.sbp_world.proofs.Words.World.{history_of, Run, IsRun, IsTakenHere, OnceTakenLaw, TakenOf, TakesDue, of_one}
 use Rattle.sbp_journal.specs.declared.note.Note.TheVariants as notes
-use Rattle.sbp_laws.specs.Lists.{Orb, named, waits_in}
-use Rattle.sbp_laws.specs.Packets.{access_at, receiver_in}
-use Rattle.sbp_laws.specs.StatusLaw.{Taking, TakesEach, if_waits, of_others, taking_at, taking_by, taking_of, takings_in}
-use Rattle.sbp_laws.specs.Terms.{takes}
-use Rattle.sbp_laws.specs.Turns.{EachMoment, EachTurn, EachTurnBefore}
-use Rattle.sbp_world.specs.Histories.{history_of}
-use Rattle.sbp_world.specs.Runs.{Run}
-use Rattle.sbp_world.specs.Hosts.Runs.{IsRun}
+use Rattle.sbp_laws.specs.StatusLaw.{of_others}
 use Rattle.sbp_world.proofs.Hosts.Deliveries.{deliveries_law, some_same}
-use Rattle.sbp_world.specs.Hosts.Statuses.Finished.{FinishedLaw, IsTakenHere, OnceTakenLaw}
-use Rattle.sbp_world.specs.Hosts.Statuses.Taking.{TakenOf, TakesDue, of_one}
+use Rattle.sbp_world.specs.Hosts.Statuses.Finished.{FinishedLaw}
 use Rattle.sbp_world.proofs.Hosts.Statuses.Insides.{Inside}
 use Rattle.sbp_world.proofs.Hosts.Statuses.Ranges.{InsideIn, run_inside}
 use Rattle.sbp_world.proofs.Hosts.Statuses.Runs.{taking_law}

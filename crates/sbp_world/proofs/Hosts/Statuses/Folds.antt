@@ -1,30 +1,14 @@
 -- What each moment of a history leaves of the statuses that an initiator took.
-use Rattle.std.proofs.Common.{arith, ◌≡◌, refl, sym, ◌∙◌, ap, ℕ, zero, suc, ◌≤◌, nat_eq, not, Bool, true, false, cond, List, [], ◌∷◌, Option, Some, None, Result, Ok, Err}
-use Rattle.std.proofs.lemmas.Bool.Decides.{nat_tests}
-use Rattle.std.specs.List.{AllByRecursion}
-use Rattle.std.proofs.lemmas.Bool.{not-true}
-use Rattle.orb_layout.specs.declared.fault.OrbFault.{OrbFault}
-use Rattle.orb_layout.specs.declared.status.StatusBlock.{StatusBlock}
-use Rattle.orb_layout.specs.declared.status.StatusKind.{StatusKind}
-use Rattle.orb_layout.specs.StatusBlocks.{read_block}
-use Rattle.sbp_journal.specs.Addresses.{Access}
-use Rattle.sbp_journal.specs.Run.{Moment, asked, said}
-use Rattle.sbp_journal.specs.Transactions.{Sending}
-use Rattle.sbp_journal.specs.Wire.{terms}
-use Rattle.sbp_journal.specs.declared.event.Event.{Event}
-use Rattle.sbp_journal.specs.declared.note.Note.{Note}
+use Rattle.sbp_world.proofs.Words.Std.{arith, ◌≡◌, refl, sym, ◌∙◌, ap, ℕ, zero, suc, ◌≤◌, nat_eq, not, Bool, true, false, cond, List, [], ◌∷◌, Option, Some, None, Result, Ok, Err, nat_tests, AllByRecursion, not-true}
+use Rattle.sbp_world.proofs.Words.Wire.{Access, Moment, asked, said, Sending, terms, Event, Note, Side}
+use Rattle.sbp_world.proofs.Words.Initiator.{OrbFault, StatusBlock, StatusKind, read_block}
+use Rattle.sbp_world.proofs.Words.Laws.{Orb, TakenStatus, named, orb, taken_at, waits_in, access_at, receiver_in, Taking, if_waits, taking_at, taking_by, taking_of, takings_in, takes, EachMoment, EachTurn, EachTurnBefore}
+use Rattle.sbp_world.proofs.Words.World.{behind, IsTakenBy, TakenOf, Takings, TakesDue, of_one}
 use Rattle.sbp_journal.specs.declared.note.Note.TheVariants as notes
-use Rattle.sbp_journal.specs.declared.side.Side.{Side}
 use Rattle.sbp_journal.specs.declared.side.Side.TheVariants as sides
-use Rattle.sbp_laws.specs.Lists.{Orb, TakenStatus, named, orb, taken_at, waits_in}
-use Rattle.sbp_laws.specs.Packets.{access_at, receiver_in}
-use Rattle.sbp_laws.specs.StatusLaw.{Taking, if_waits, taking_at, taking_by, taking_of, takings_in}
-use Rattle.sbp_laws.specs.Terms.{takes}
-use Rattle.sbp_laws.specs.Turns.{EachMoment, EachTurn, EachTurnBefore}
-use Rattle.sbp_world.specs.Hosts.Calls.{behind, by_side}
+use Rattle.sbp_world.specs.Hosts.Calls.{by_side}
 use Rattle.sbp_world.proofs.Hosts.Carries.{is_apart}
 use Rattle.sbp_world.proofs.Hosts.Shown.{IsElsewhere, NotTo}
-use Rattle.sbp_world.specs.Hosts.Statuses.Taking.{IsTakenBy, TakenOf, Takings, TakesDue, of_one}
 use Rattle.sbp_world.proofs.Common.{untrue, itself}
 
 -- ---- notes that take nothing of an initiator, and say of no packet that it was got

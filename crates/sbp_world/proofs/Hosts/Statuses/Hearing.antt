@@ -1,46 +1,17 @@
 -- A delivery to an initiator: it ignores the packet and tells nothing, or gets it and takes no status where none is due, or the one that is.
-use Rattle.std.proofs.Common.{◌≡◌, refl, sym, ◌∙◌, ap, subst, ℕ, ◌^◌, ◌≤◌, nat_eq, not, Bool, true, false, List, [], ◌∷◌, ◌++◌, Option, Some, None, Result, Ok, Err}
-use Rattle.std.specs.List.{AllByRecursion}
-use Rattle.async_packet.specs.Packet.{Packet, header_in}
-use Rattle.async_packet.specs.Reading.{reading}
-use Rattle.async_packet.specs.declared.fault.PacketFault.{PacketFault}
-use Rattle.async_packet.specs.Labels.{LabelParts}
-use Rattle.label_table.specs.Judging.{Row, by_again, by_generation, by_grammar, by_label, by_request, by_response, row_of}
-use Rattle.label_table.specs.Layer.{Finding, Layer, answering_step, closed_by, facts_of, judged_by, judging_step, of_again, of_generation, of_grammar, of_label, of_request, of_response, responded}
-use Rattle.label_table.specs.Requests.{reply_kind}
-use Rattle.bus_memory.specs.Windows.{slot_of}
-use Rattle.orb_layout.specs.declared.status.StatusBlock.{StatusBlock}
-use Rattle.orb_layout.specs.declared.status.StatusKind.{StatusKind}
+use Rattle.sbp_world.proofs.Words.Std.{◌≡◌, refl, sym, ◌∙◌, ap, subst, ℕ, ◌^◌, ◌≤◌, nat_eq, not, Bool, true, false, List, [], ◌∷◌, ◌++◌, Option, Some, None, Result, Ok, Err, AllByRecursion}
+use Rattle.sbp_world.proofs.Words.Wire.{Packet, header_in, reading, PacketFault, LabelParts, Row, by_again, by_generation, by_grammar, by_label, by_request, by_response, row_of, Finding, Layer, answering_step, closed_by, facts_of, judged_by, judging_step, of_again, of_generation, of_grammar, of_label, of_request, of_response, responded, reply_kind, Access, access_of, OutboxState, empty_outbox, Judging, ignored_as, serving, telling, Moment, Cause, Judged, Note, Side}
+use Rattle.sbp_world.proofs.Words.Initiator.{slot_of, StatusBlock, StatusKind, ListState, take_lists, TicketParts, Purpose, InitiatorState, Turn, called, receive_step, received, request_step, responded_as, ending_of, drop_if, notes_of, own, LeftBy, judging_for, note_by, note_of, Brought, block_drops, block_note, block_notes, brought, nothing, status, taken_of, unsolicited, waiting_at}
+use Rattle.sbp_world.proofs.Words.Laws.{access_in, spelled_by, taking_by}
+use Rattle.sbp_world.proofs.Words.World.{IsCalled, AreRows}
 use Rattle.orb_layout.specs.declared.status.StatusKind.TheVariants as kinds
-use Rattle.orb_list.specs.Lists.{ListState, take_lists}
-use Rattle.orb_list.specs.Tickets.{TicketParts}
-use Rattle.sbp_journal.specs.Addresses.{Access, access_of}
-use Rattle.sbp_journal.specs.Outgoings.{OutboxState, empty_outbox}
-use Rattle.sbp_journal.specs.Rows.{Judging, ignored_as, serving, telling}
-use Rattle.sbp_journal.specs.Run.{Moment}
-use Rattle.sbp_journal.specs.declared.cause.Cause.{Cause}
 use Rattle.sbp_journal.specs.declared.cause.Cause.TheVariants as causes
-use Rattle.sbp_journal.specs.declared.cause.Judged.{Judged}
 use Rattle.sbp_journal.specs.declared.cause.Judged.TheVariants as judgements
-use Rattle.sbp_journal.specs.declared.note.Note.{Note}
-use Rattle.sbp_journal.specs.declared.side.Side.{Side}
 use Rattle.sbp_journal.specs.declared.side.Side.TheVariants as sides
-use Rattle.sbp_initiator.specs.declared.purpose.Purpose.{Purpose}
-use Rattle.sbp_initiator.specs.declared.state.InitiatorState.{InitiatorState}
-use Rattle.sbp_initiator.specs.Effects.{Turn}
-use Rattle.sbp_initiator.specs.Receiving.{called, receive_step, received, request_step, responded_as}
-use Rattle.sbp_initiator.specs.States.{ending_of}
-use Rattle.sbp_laws.specs.Packets.{access_in, spelled_by}
-use Rattle.sbp_laws.specs.StatusLaw.{taking_by}
-use Rattle.sbp_initiator.specs.Histories.Drops.{drop_if}
-use Rattle.sbp_initiator.specs.Histories.Ends.{notes_of, own}
-use Rattle.sbp_initiator.specs.Histories.Judging.{LeftBy, judging_for, note_by, note_of}
-use Rattle.sbp_initiator.specs.Histories.Taking.{Brought, block_drops, block_note, block_notes, brought, nothing, status, taken_by, taken_of, unsolicited, waiting_at}
+use Rattle.sbp_initiator.specs.Histories.Taking.{taken_by}
 use Rattle.sbp_initiator.proofs.Histories.Judging.{judging_law}
 use Rattle.sbp_initiator.proofs.Histories.Over.{sound}
 use Rattle.sbp_initiator.proofs.Histories.Requests.{HasOrb, request_answers}
-use Rattle.sbp_world.specs.Hosts.Calling.{IsCalled}
-use Rattle.sbp_world.specs.Hosts.Fits.{AreRows}
 use Rattle.sbp_world.proofs.Hosts.Answering.{IsRequestFound, request_of}
 use Rattle.sbp_world.proofs.Hosts.GotRequests.{request_got}
 use Rattle.sbp_world.proofs.Hosts.Hosted.{hears_fit}

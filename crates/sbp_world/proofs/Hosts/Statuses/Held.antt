@@ -1,46 +1,20 @@
 -- The lines of a run carry on what its history says of the statuses that an initiator takes.
-use Rattle.std.proofs.Common.{arith, ◌≡◌, refl, sym, ◌∙◌, ap, subst, ◌⊎◌, inl, inr, ℕ, suc, ◌-◌, ◌^◌, ◌<◌, ◌≤◌, ◌&&◌, nat_eq, nat_lt, Bool, true, false, cond, List, [], ◌∷◌, Option, Some, None, Ok}
+use Rattle.sbp_world.proofs.Words.Std.{arith, ◌≡◌, refl, sym, ◌∙◌, ap, subst, ◌⊎◌, inl, inr, ℕ, suc, ◌-◌, ◌^◌, ◌<◌, ◌≤◌, ◌&&◌, nat_eq, nat_lt, Bool, true, false, cond, List, [], ◌∷◌, Option, Some, None, Ok}
+use Rattle.sbp_world.proofs.Words.Wire.{reading, Access, empty_outbox, Moment, asked, said, Sending, terms, Judged, Action, Note, Side, judged_note}
+use Rattle.sbp_world.proofs.Words.Initiator.{start, InitiatorState, IsAction, act_step, Turn, new_state, expire_step, receive_step, see_step, own, Call, IsCall, acts, done, lets_expire, receives, sees}
+use Rattle.sbp_world.proofs.Words.Laws.{host_at, TakenStatus, is_list, is_none_taken, present_list, slot_at, taken_at, access_in, packet_in, receiver_in, spelled_by, taking_at, taking_by, login_fifo, appends}
+use Rattle.sbp_world.proofs.Words.World.{behind, Core, IsHost, IsTakenBy, Spells, is_place_fifo, of_one}
 use Rattle.std.specs.Prelude.{IsSomeAnd}
-use Rattle.async_packet.specs.Reading.{reading}
 use Rattle.bus_memory.specs.declared.window.Window.TheVariants as windows
-use Rattle.bus_memory.specs.Windows.{start}
-use Rattle.sbp_journal.specs.Addresses.{Access}
-use Rattle.sbp_journal.specs.Outgoings.{empty_outbox}
-use Rattle.sbp_journal.specs.Run.{Moment, asked, said}
-use Rattle.sbp_journal.specs.Transactions.{Sending}
-use Rattle.sbp_journal.specs.Wire.{terms}
-use Rattle.sbp_journal.specs.declared.cause.Judged.{Judged}
 use Rattle.sbp_journal.specs.declared.cause.Judged.TheVariants as judgements
-use Rattle.sbp_journal.specs.declared.event.Action.{Action}
 use Rattle.sbp_journal.specs.declared.event.Event.TheVariants as events
-use Rattle.sbp_journal.specs.declared.note.Note.{Note}
 use Rattle.sbp_journal.specs.declared.note.Note.TheVariants as notes
-use Rattle.sbp_journal.specs.declared.side.Side.{Side}
-use Rattle.sbp_initiator.specs.declared.state.InitiatorState.{InitiatorState}
-use Rattle.sbp_initiator.specs.Acting.{IsAction, act_step}
-use Rattle.sbp_initiator.specs.Effects.{Turn}
-use Rattle.sbp_initiator.specs.Initiators.{new_state}
-use Rattle.sbp_initiator.specs.Receiving.{expire_step, receive_step}
-use Rattle.sbp_initiator.specs.Seeing.{see_step}
-use Rattle.sbp_bus.specs.Packets.{judged_note}
-use Rattle.sbp_laws.specs.Hosts.{host_at}
-use Rattle.sbp_laws.specs.Lists.{TakenStatus, is_list, is_none_taken, present_list, slot_at, taken_at}
-use Rattle.sbp_laws.specs.Packets.{access_in, packet_in, receiver_in, spelled_by}
-use Rattle.sbp_laws.specs.StatusLaw.{taking_at, taking_by}
-use Rattle.sbp_laws.specs.Targets.{login_fifo}
-use Rattle.sbp_laws.specs.Terms.{appends}
-use Rattle.sbp_initiator.specs.Histories.Ends.{own}
-use Rattle.sbp_initiator.specs.Histories.Laws.{Call, IsCall, acts, done, lets_expire, receives, sees}
 use Rattle.sbp_initiator.proofs.Histories.Called.{count_law}
-use Rattle.sbp_world.specs.Hosts.Calls.{behind}
-use Rattle.sbp_world.specs.Hosts.Core.{Core}
-use Rattle.sbp_world.specs.Hosts.Worlds.{IsHost}
 use Rattle.sbp_world.proofs.Hosts.Carries.{Carries, Does, Tells}
 use Rattle.sbp_world.proofs.Hosts.Cores.{got_told}
 use Rattle.sbp_world.proofs.Hosts.Hosted.{Cored, cored_carried, first_cored}
 use Rattle.sbp_world.proofs.Hosts.OrbRuns.{Rowed}
 use Rattle.sbp_world.proofs.Hosts.Shown.{IsHeard}
-use Rattle.sbp_world.specs.Hosts.Statuses.Taking.{IsTakenBy, Spells, is_place_fifo, of_one}
 use Rattle.sbp_world.proofs.Hosts.Statuses.Acted.{host_carried}
 use Rattle.sbp_world.proofs.Hosts.Statuses.Brings.{Took}
 use Rattle.sbp_world.proofs.Hosts.Statuses.Folds.{Counted, apart_on, asked_on, count_of, due_at, got_on, silent_behind, silent_on, taken_on}

@@ -1,39 +1,15 @@
 -- The lines of a run carry on that the run terms of the lists of an initiator are the rows of its slots.
-use Rattle.std.proofs.Common.{◌≡◌, refl, sym, ◌∙◌, ap, subst, ℕ, ◌==◌, true, false, List, [], ◌∷◌, Option, Some, Ok}
-use Rattle.async_packet.specs.Labels.{LabelParts}
-use Rattle.async_packet.specs.Packet.{Packet, lock, lock_response, read_block, read_block_response, read_quadlet, read_quadlet_response, write_block, write_quadlet, write_response}
-use Rattle.async_packet.specs.Reading.{reading}
-use Rattle.label_table.specs.Layer.{Finding, judging_step, of_again, of_generation, of_grammar, of_label, of_request, of_response}
-use Rattle.orb_layout.specs.declared.status.StatusBlock.{StatusBlock}
-use Rattle.orb_layout.specs.StatusBlocks.{src_of}
-use Rattle.initiator_base.specs.Places.{names_place}
-use Rattle.sbp_journal.specs.Outgoings.{OutboxState, empty_outbox}
-use Rattle.sbp_journal.specs.Run.{Moment, said}
-use Rattle.sbp_journal.specs.Transactions.{Sending}
-use Rattle.sbp_journal.specs.Wire.{terms}
-use Rattle.sbp_journal.specs.declared.cause.Judged.{Judged}
+use Rattle.sbp_world.proofs.Words.Std.{◌≡◌, refl, sym, ◌∙◌, ap, subst, ℕ, ◌==◌, true, false, List, [], ◌∷◌, Option, Some, Ok}
+use Rattle.sbp_world.proofs.Words.Wire.{LabelParts, Packet, lock, lock_response, read_block, read_block_response, read_quadlet, read_quadlet_response, write_block, write_quadlet, write_response, reading, Finding, judging_step, of_again, of_generation, of_grammar, of_label, of_request, of_response, OutboxState, empty_outbox, Moment, said, Sending, terms, Judged, Event, Note, Side, judged_note}
+use Rattle.sbp_world.proofs.Words.Initiator.{StatusBlock, src_of, names_place, Purpose, InitiatorState, Turn, expire_step, receive_step, status_in, lets_expire, receives}
+use Rattle.sbp_world.proofs.Words.Laws.{src_in, access_in, packet_in, spelled_by}
+use Rattle.sbp_world.proofs.Words.World.{Listed, MayFind, MayPacket, behind, AreRows, IsNoAbort, MayTake, is_beside, IsHost}
 use Rattle.sbp_journal.specs.declared.cause.Judged.TheVariants as judgements
 use Rattle.sbp_journal.specs.declared.event.Action.TheVariants as actions
-use Rattle.sbp_journal.specs.declared.event.Event.{Event}
 use Rattle.sbp_journal.specs.declared.event.Event.TheVariants as events
-use Rattle.sbp_journal.specs.declared.note.Note.{Note}
 use Rattle.sbp_journal.specs.declared.note.Note.TheVariants as notes
 use Rattle.sbp_journal.specs.declared.operation.Operation.TheVariants as operations
-use Rattle.sbp_journal.specs.declared.side.Side.{Side}
 use Rattle.sbp_journal.specs.declared.side.Side.TheVariants as sides
-use Rattle.sbp_initiator.specs.declared.purpose.Purpose.{Purpose}
-use Rattle.sbp_initiator.specs.declared.state.InitiatorState.{InitiatorState}
-use Rattle.sbp_initiator.specs.Effects.{Turn}
-use Rattle.sbp_initiator.specs.Receiving.{expire_step, receive_step}
-use Rattle.sbp_initiator.specs.States.{status_in}
-use Rattle.sbp_bus.specs.Packets.{judged_note}
-use Rattle.sbp_laws.specs.Lists.{src_in}
-use Rattle.sbp_laws.specs.Packets.{access_in, packet_in, spelled_by}
-use Rattle.sbp_initiator.specs.Histories.Laws.{lets_expire, receives}
-use Rattle.sbp_world.specs.Hosts.Calls.{Listed, MayFind, MayPacket, behind}
-use Rattle.sbp_world.specs.Hosts.Fits.{AreRows}
-use Rattle.sbp_world.specs.Hosts.Steps.{IsNoAbort, MayTake, is_beside}
-use Rattle.sbp_world.specs.Hosts.Worlds.{IsHost}
 use Rattle.sbp_world.proofs.Hosts.Answering.{request_of}
 use Rattle.sbp_world.proofs.Hosts.Beside.{beside_rests}
 use Rattle.sbp_world.proofs.Hosts.Carries.{IsNoAct, Tells, is_apart}

@@ -1,34 +1,14 @@
 -- What a call of an initiator tells beside a status that it takes: notes that take none, and say of no packet that it was got.
-use Rattle.std.proofs.Common.{◌≡◌, refl, sym, subst, ℕ, nat_lt, Bool, true, false, cond, List, [], ◌∷◌, ◌++◌, Option, Some, None, Result, Ok, Err}
-use Rattle.std.specs.List.{AllByRecursion}
-use Rattle.async_packet.specs.Labels.{LabelParts}
-use Rattle.label_table.specs.declared.reply.Stale.{Stale}
-use Rattle.label_table.specs.Layer.{Layer, expiring_step, seeing_step}
-use Rattle.orb_list.specs.Lists.{ListState, drop_lists}
-use Rattle.sbp_journal.specs.Outgoings.{OutboxState, empty_outbox}
-use Rattle.sbp_journal.specs.declared.event.Action.{Action}
-use Rattle.sbp_journal.specs.declared.note.Note.{Note}
+use Rattle.sbp_world.proofs.Words.Std.{◌≡◌, refl, sym, subst, ℕ, nat_lt, Bool, true, false, cond, List, [], ◌∷◌, ◌++◌, Option, Some, None, Result, Ok, Err, AllByRecursion}
+use Rattle.sbp_world.proofs.Words.Wire.{LabelParts, Stale, Layer, expiring_step, seeing_step, OutboxState, empty_outbox, Action, Note, Operation, OpWord, Side}
+use Rattle.sbp_world.proofs.Words.Initiator.{ListState, drop_lists, Ending, Purpose, Running, InitiatorState, act_step, Turn, dropped_as, ended_for, told, called, expire_step, expired_as, all_end, interrupted, reset_told, resets_told, see_step, seen_as, states_end, is_step, drop_if, ends_the_list, OpEnd, drops, fails_write, notes_of, ops, own, read_ends, state_ops, sticks, sticks_by}
+use Rattle.sbp_world.proofs.Words.World.{IsCalled}
 use Rattle.sbp_journal.specs.declared.note.Note.TheVariants as notes
-use Rattle.sbp_journal.specs.declared.operation.Operation.{Operation}
 use Rattle.sbp_journal.specs.declared.operation.Operation.TheVariants as operations
-use Rattle.sbp_journal.specs.declared.operation.OpWord.{OpWord}
-use Rattle.sbp_journal.specs.declared.side.Side.{Side}
 use Rattle.sbp_journal.specs.declared.side.Side.TheVariants as sides
-use Rattle.sbp_initiator.specs.declared.purpose.Ending.{Ending}
 use Rattle.sbp_initiator.specs.declared.purpose.Ending.TheVariants as endings
-use Rattle.sbp_initiator.specs.declared.purpose.Purpose.{Purpose}
-use Rattle.sbp_initiator.specs.declared.purpose.Running.{Running}
-use Rattle.sbp_initiator.specs.declared.state.InitiatorState.{InitiatorState}
-use Rattle.sbp_initiator.specs.Acting.{act_step}
-use Rattle.sbp_initiator.specs.Effects.{Turn, dropped_as, ended_for, told}
-use Rattle.sbp_initiator.specs.Receiving.{called, expire_step, expired_as}
-use Rattle.sbp_initiator.specs.Seeing.{all_end, interrupted, reset_told, resets_told, see_step, seen_as, states_end}
-use Rattle.sbp_initiator.specs.Steps.{is_step}
 use Rattle.sbp_world.proofs.Wire.OwnActs.{AreStepSides, acts}
-use Rattle.sbp_initiator.specs.Histories.Drops.{drop_if, ends_the_list}
-use Rattle.sbp_initiator.specs.Histories.Ends.{OpEnd, drops, fails_write, notes_of, ops, own, read_ends, state_ops, sticks, sticks_by}
 use Rattle.sbp_initiator.proofs.Histories.Effects.{Fits, ended_does}
-use Rattle.sbp_world.specs.Hosts.Calling.{IsCalled}
 use Rattle.sbp_world.proofs.Hosts.Hosted.{expires_fit}
 use Rattle.sbp_world.proofs.Hosts.KnowEnds.{Points}
 use Rattle.sbp_world.proofs.Hosts.KnowHears.{IfExpires}

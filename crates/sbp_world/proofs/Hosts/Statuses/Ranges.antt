@@ -1,25 +1,11 @@
 -- In every run a status is taken for an initiator of the run alone.
-use Rattle.std.proofs.Common.{arith, ◌≡◌, refl, sym, ◌∙◌, ap, subst, ℕ, ◌+◌, ◌<◌, ◌≤◌, nat_lt, Bool, true, false, cond, List, [], ◌∷◌, ◌++◌, length, map, Option, Some, None}
-use Rattle.rbc_disk.specs.Runs.{Told}
-use Rattle.sbp_journal.specs.Run.{Moment, asked, said}
-use Rattle.sbp_journal.specs.declared.event.Event.{Event}
+use Rattle.sbp_world.proofs.Words.Std.{arith, ◌≡◌, refl, sym, ◌∙◌, ap, subst, ℕ, ◌+◌, ◌<◌, ◌≤◌, nat_lt, Bool, true, false, cond, List, [], ◌∷◌, ◌++◌, length, map, Option, Some, None}
+use Rattle.sbp_world.proofs.Words.Wire.{Moment, asked, said, Event, Note, end_note}
+use Rattle.sbp_world.proofs.Words.Target.{Told}
+use Rattle.sbp_world.proofs.Words.World.{MayReceive, delivered, history_of, moments_behind, MayHappen, happens, keyed, reset_line, MayIf, delivered_if, inject_line, injected, injected_to, is_in_flight, lose_line, may_repeat, Entry, Run, after, beginning, posted, MayAll, MayNext, after_all, delivered_at, delivered_next, is_settled, lowest, Scene, WorldState, begun, initiator_at, AreLines, front_of, IsRun}
 use Rattle.sbp_journal.specs.declared.event.Event.TheVariants as events
-use Rattle.sbp_journal.specs.declared.note.Note.{Note}
 use Rattle.sbp_journal.specs.declared.note.Note.TheVariants as notes
-use Rattle.sbp_bus.specs.Packets.{end_note}
-use Rattle.sbp_world.specs.Delivering.{MayReceive, delivered}
-use Rattle.sbp_world.specs.Histories.{history_of, moments_behind}
-use Rattle.sbp_world.specs.Lines.{MayHappen, happens, keyed}
-use Rattle.sbp_world.specs.Nodes.{reset_line}
-use Rattle.sbp_world.specs.Packets.{MayIf, delivered_if, inject_line, injected, injected_to, is_in_flight, lose_line, may_repeat}
-use Rattle.sbp_world.specs.Runs.{Entry, Run, after, beginning}
-use Rattle.sbp_world.specs.Sending.{posted}
-use Rattle.sbp_world.specs.Settling.{MayAll, MayNext, after_all, delivered_at, delivered_next, is_settled, lowest}
 use Rattle.sbp_world.specs.Settling as settling
-use Rattle.sbp_world.specs.Worlds.{Scene, WorldState, begun, initiator_at}
-use Rattle.sbp_world.specs.Wire.Lines.{AreLines}
-use Rattle.sbp_world.specs.Hosts.Deliveries.{front_of}
-use Rattle.sbp_world.specs.Hosts.Runs.{IsRun}
 use Rattle.sbp_world.proofs.Hosts.Calling.{IsOwn}
 use Rattle.sbp_world.proofs.Hosts.Carried.{between_runs}
 use Rattle.sbp_world.proofs.Hosts.Hosted.{Cored, cored_carried, first_cored}

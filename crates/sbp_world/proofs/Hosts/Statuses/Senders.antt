@@ -1,62 +1,29 @@
 -- A status is taken of a packet that the target sent.
-use Rattle.std.proofs.Common.{arith, ◌≡◌, refl, sym, ◌∙◌, ap, subst, ◌⊎◌, inl, inr, ℕ, suc, ◌<◌, ◌≤◌, ◌&&◌, not, nat_eq, Bool, true, false, cond, List, [], ◌∷◌, ◌++◌, length, map, Option, Some, None, Result, Ok, Err, append_assoc}
-use Rattle.std.proofs.lemmas.Bool.Decides.{nat_tests}
+use Rattle.sbp_world.proofs.Words.Std.{arith, ◌≡◌, refl, sym, ◌∙◌, ap, subst, ◌⊎◌, inl, inr, ℕ, suc, ◌<◌, ◌≤◌, ◌&&◌, not, nat_eq, Bool, true, false, cond, List, [], ◌∷◌, ◌++◌, length, map, Option, Some, None, Result, Ok, Err, append_assoc, nat_tests, not-false}
+use Rattle.sbp_world.proofs.Words.Wire.{Packet, header_in, reading, PacketFault, is_reset, Node, as_sending, Access, access_of, empty_outbox, Moment, asked, said, Sending, Terms, terms, Judged, Event, topology_at}
+use Rattle.sbp_world.proofs.Words.Target.{Told}
+use Rattle.sbp_world.proofs.Words.Initiator.{start, reads_rom, StatusKind, InitiatorState, Turn, addressed, is_foreign, receive_step, request_step}
+use Rattle.sbp_world.proofs.Words.Laws.{Host, host_at, last_got, slot_at, access_at, access_in, packet_in, receiver_in, spelled_by, SpellsStatus, fifo_of, EachMoment}
+use Rattle.sbp_world.proofs.Words.World.{history_of, Entry, Run, after, beginning, MayAll, after_all, Scene, WorldState, begun, initiator_at, Stands, IsDelivering, IsDelivered, front_of, history, IsRun, IsTakenHere, RestLaw, SendersLaw, IsTakenBy, Spells, is_place_fifo}
 use Rattle.std.specs.Prelude.{IsSomeAnd}
-use Rattle.std.proofs.lemmas.Bool.{not-false}
-use Rattle.async_packet.specs.Packet.{Packet, header_in}
-use Rattle.async_packet.specs.Reading.{reading}
-use Rattle.async_packet.specs.declared.fault.PacketFault.{PacketFault}
 use Rattle.bus_memory.specs.declared.window.Window.TheVariants as windows
-use Rattle.bus_memory.specs.Windows.{start}
-use Rattle.bus_transactions.specs.May.{is_reset}
-use Rattle.bus_transactions.specs.Wire.{Node, as_sending}
 use Rattle.bus_transactions.proofs.Facts.{Facts}
-use Rattle.initiator_base.specs.Places.{reads_rom}
-use Rattle.orb_layout.specs.declared.status.StatusKind.{StatusKind}
-use Rattle.rbc_disk.specs.Runs.{Told}
-use Rattle.sbp_journal.specs.Addresses.{Access, access_of}
-use Rattle.sbp_journal.specs.Outgoings.{empty_outbox}
-use Rattle.sbp_journal.specs.Run.{Moment, asked, said}
-use Rattle.sbp_journal.specs.Transactions.{Sending}
-use Rattle.sbp_journal.specs.Wire.{Terms, terms}
 use Rattle.sbp_journal.specs.declared.cause.Cause.TheVariants as causes
-use Rattle.sbp_journal.specs.declared.cause.Judged.{Judged}
 use Rattle.sbp_journal.specs.declared.cause.Judged.TheVariants as judgements
-use Rattle.sbp_journal.specs.declared.event.Event.{Event}
 use Rattle.sbp_journal.specs.declared.event.Event.TheVariants as events
 use Rattle.sbp_journal.specs.declared.note.Note.TheVariants as notes
-use Rattle.sbp_initiator.specs.declared.state.InitiatorState.{InitiatorState}
-use Rattle.sbp_initiator.specs.Effects.{Turn}
-use Rattle.sbp_initiator.specs.Receiving.{addressed, is_foreign, receive_step, request_step}
-use Rattle.sbp_bus.specs.Generations.{topology_at}
-use Rattle.sbp_laws.specs.Hosts.{Host, host_at}
-use Rattle.sbp_laws.specs.Lists.{last_got, slot_at}
-use Rattle.sbp_laws.specs.Packets.{access_at, access_in, packet_in, receiver_in, spelled_by}
-use Rattle.sbp_laws.specs.StatusLaw.{SpellsStatus, fifo_of}
-use Rattle.sbp_laws.specs.Turns.{EachMoment}
-use Rattle.sbp_world.specs.Histories.{history_of}
-use Rattle.sbp_world.specs.Runs.{Entry, Run, after, beginning}
-use Rattle.sbp_world.specs.Settling.{MayAll, after_all}
-use Rattle.sbp_world.specs.Worlds.{Scene, WorldState, begun, initiator_at}
-use Rattle.sbp_world.specs.Wire.Wires.{Stands}
 use Rattle.sbp_world.proofs.FitInitiator.Law.{fitting_law as own_fitting_law}
 use Rattle.sbp_world.proofs.FitTarget.Law.{fitting_law}
 use Rattle.sbp_world.proofs.Wire.Bus.{holds}
 use Rattle.sbp_world.proofs.Wire.Holding.{Sound, to_target}
 use Rattle.sbp_world.proofs.Wire.Runs.{SoundAfter, sound_after}
 use Rattle.sbp_world.proofs.Wire.Sound.{opens}
-use Rattle.sbp_world.specs.Hosts.Answering.{IsDelivering}
-use Rattle.sbp_world.specs.Hosts.Deliveries.{IsDelivered, front_of}
-use Rattle.sbp_world.specs.Hosts.Handing.{history}
-use Rattle.sbp_world.specs.Hosts.Runs.{IsRun}
 use Rattle.sbp_world.proofs.Hosts.Answering.{request_of}
 use Rattle.sbp_world.proofs.Hosts.AnsweringLines.{all_sound}
 use Rattle.sbp_world.proofs.Hosts.Deliveries.{deliveries_law, some_same}
 use Rattle.sbp_world.proofs.Hosts.GotRequests.{request_got}
 use Rattle.sbp_world.proofs.Hosts.Runs.{are_told}
-use Rattle.sbp_world.specs.Hosts.Statuses.Finished.{IsTakenHere}
-use Rattle.sbp_world.specs.Hosts.Statuses.Senders.{IsOfTarget, RestLaw, SendersLaw}
-use Rattle.sbp_world.specs.Hosts.Statuses.Taking.{IsTakenBy, Spells, is_place_fifo}
+use Rattle.sbp_world.specs.Hosts.Statuses.Senders.{IsOfTarget}
 use Rattle.sbp_world.proofs.Hosts.Statuses.Brings.{ignored_got}
 use Rattle.sbp_world.proofs.Hosts.Statuses.Finished.{finished_law}
 use Rattle.sbp_world.proofs.Hosts.Statuses.Hearing.{served}

@@ -1,17 +1,12 @@
 -- An ORB that waits in a slot waits by the run terms, and its slot is the one that they name.
-use Rattle.std.proofs.Common.{arith, ◌≡◌, refl, ◌∙◌, ap, subst, ℕ, ◌<◌, ◌&&◌, nat_lt, Bool, true, false, List, Option, Some, None}
-use Rattle.std.proofs.lemmas.Bool.Decides.{nat_tests}
-use Rattle.orb_list.specs.declared.list.PresentList.{PresentList}
-use Rattle.orb_list.specs.declared.slot.SlotState.{SlotState}
+use Rattle.sbp_world.proofs.Words.Std.{arith, ◌≡◌, refl, ◌∙◌, ap, subst, ℕ, ◌<◌, ◌&&◌, nat_lt, Bool, true, false, List, Option, Some, None, nat_tests}
+use Rattle.sbp_world.proofs.Words.Wire.{Moment}
+use Rattle.sbp_world.proofs.Words.Initiator.{PresentList, SlotState, SlotTable, slot_in, waiting, waits_by, TicketParts}
+use Rattle.sbp_world.proofs.Words.Laws.{is_list, is_none_taken, prepared_in, present_list, slot_at, taken_at, waits_in, appends}
+use Rattle.sbp_world.proofs.Words.World.{AreRows, IfLast, LastFits, StateFits, name, name_in, present_in}
 use Rattle.orb_list.specs.declared.slot.SlotState.TheVariants as states
-use Rattle.orb_list.specs.Table.{SlotTable, slot_in, waiting, waits_in as waits_by}
-use Rattle.orb_list.specs.Tickets.{TicketParts}
 use Rattle.orb_list.proofs.Tied.{waits_last}
-use Rattle.sbp_journal.specs.Run.{Moment}
-use Rattle.sbp_laws.specs.Lists.{is_list, is_none_taken, prepared_in, present_list, slot_at, taken_at, waits_in}
-use Rattle.sbp_laws.specs.Terms.{appends}
-use Rattle.sbp_world.specs.Hosts.Fits.{AreRows, IfLast, IsOf, LastFits, StateFits}
-use Rattle.sbp_world.specs.Hosts.Rows.{name, name_in, present_in}
+use Rattle.sbp_world.specs.Hosts.Fits.{IsOf}
 
 pub all_three : (a b c : Bool) → a ≡ true → b ≡ true → c ≡ true → (a && b && c) ≡ true
 all_three true true true e f g = refl

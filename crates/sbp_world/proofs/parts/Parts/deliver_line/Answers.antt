@@ -1,6 +1,6 @@
+use Rattle.sbp_world.proofs.Words.Std.{rules}
+use Rattle.sbp_world.proofs.Words.World.{is_in_flight}
 use Rattle.std.specs.Prelude.{◌≡◌, true, false}
-use Rattle.std.proofs.Common.{rules}
-use Rattle.sbp_world.specs.Packets.{is_in_flight}
 use Rattle.sbp_world.proofs.Buses.{noted_on}
 use Rattle.sbp_world.proofs.Delivered.{line_delivers, line_refused, on_ok}
 use Rattle.sbp_world.proofs.parts.Parts.deliver_line.Goals as goal

@@ -1,7 +1,7 @@
+use Rattle.sbp_world.proofs.Words.Std.{◌∙◌, ap, rules}
+use Rattle.sbp_world.proofs.Words.World.{lowest}
 use Rattle.std.specs.Prelude.{◌≡◌, ◌≤◌, refl}
-use Rattle.std.proofs.Common.{◌∙◌, ap, rules}
 use Rattle.sbp_target.proofs.Faults.{none_fell_kept, none_fell_more}
-use Rattle.sbp_world.specs.Settling.{lowest}
 use Rattle.sbp_world.proofs.Settled.{all_ended, all_more, all_none, all_spent}
 use Rattle.sbp_world.proofs.parts.Parts.deliver_up_to.Goals as goal
 

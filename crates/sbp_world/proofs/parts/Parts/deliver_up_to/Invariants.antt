@@ -1,8 +1,7 @@
 -- So many packets were delivered.
-use Rattle.std.proofs.Common.{◌≡◌, length, map}
-use Rattle.sbp_target.specs.Faults.{NoneFell}
-use Rattle.sbp_world.specs.Settling.{DeliversAll}
-use Rattle.sbp_world.specs.Worlds.{scene}
+use Rattle.sbp_world.proofs.Words.Std.{◌≡◌, length, map}
+use Rattle.sbp_world.proofs.Words.Target.{NoneFell}
+use Rattle.sbp_world.proofs.Words.World.{DeliversAll, scene}
 use Rattle.sbp_world.proofs.parts.Parts.deliver_up_to.Given as goal
 
 abbrev pub invariant-loop : goal.invariant-loop

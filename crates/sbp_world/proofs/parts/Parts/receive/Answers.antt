@@ -1,5 +1,5 @@
+use Rattle.sbp_world.proofs.Words.Std.{rules}
 use Rattle.std.specs.Prelude.{◌≡◌, ◌-◌, ◌==◌, nat_lt, true, false, length}
-use Rattle.std.proofs.Common.{rules}
 use Rattle.sbp_world.proofs.Received.{initiator_receives, nobody_receives, node_receives, none_receives}
 use Rattle.sbp_world.proofs.parts.Parts.receive.Goals as goal
 

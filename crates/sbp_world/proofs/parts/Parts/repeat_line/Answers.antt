@@ -1,6 +1,6 @@
+use Rattle.sbp_world.proofs.Words.Std.{rules}
+use Rattle.sbp_world.proofs.Words.World.{may_repeat}
 use Rattle.std.specs.Prelude.{◌≡◌, true, false}
-use Rattle.std.proofs.Common.{rules}
-use Rattle.sbp_world.specs.Packets.{may_repeat}
 use Rattle.sbp_world.proofs.Buses.{noted_on}
 use Rattle.sbp_world.proofs.Delivered.{line_repeats, on_ok, repeat_refused}
 use Rattle.sbp_world.proofs.parts.Parts.repeat_line.Goals as goal

@@ -1,7 +1,5 @@
+use Rattle.sbp_world.proofs.Words.World.{acted, keyed, reset_line, see_line, tick_line, inject_line, lose_line, timeout_line}
 use Rattle.std.specs.Prelude.{refl}
-use Rattle.sbp_world.specs.Lines.{acted, keyed}
-use Rattle.sbp_world.specs.Nodes.{reset_line, see_line, tick_line}
-use Rattle.sbp_world.specs.Packets.{inject_line, lose_line, timeout_line}
 use Rattle.sbp_world.proofs.Buses.{injected_on, lost_on, reset_on}
 use Rattle.sbp_world.proofs.Delivered.{on_ok}
 use Rattle.sbp_world.proofs.Events.{deliver_is, line_is, repeat_is, settle_is, step_is, timeout_is}

@@ -1,5 +1,5 @@
-use Rattle.std.proofs.Common.{◌∙◌, ap}
-use Rattle.sbp_world.specs.Settling.{is_settled}
+use Rattle.sbp_world.proofs.Words.Std.{◌∙◌, ap}
+use Rattle.sbp_world.proofs.Words.World.{is_settled}
 use Rattle.sbp_world.proofs.Buses.{noted_on}
 use Rattle.sbp_world.proofs.Delivered.{settles_at}
 use Rattle.sbp_world.proofs.parts.Parts.settle.Goals as goal

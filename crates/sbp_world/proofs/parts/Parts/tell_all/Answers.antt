@@ -1,4 +1,4 @@
-use Rattle.std.proofs.Common.{◌∙◌}
+use Rattle.sbp_world.proofs.Words.Std.{◌∙◌}
 use Rattle.sbp_world.proofs.Handed.{told_more, told_none}
 use Rattle.sbp_world.proofs.parts.Parts.tell_all.Goals as goal
 

@@ -1,6 +1,6 @@
 -- What is left to tell, from here on, gives what all gave from the start.
+use Rattle.sbp_world.proofs.Words.World.{told_all}
 use Rattle.std.specs.Prelude.{◌≡◌, length}
-use Rattle.sbp_world.specs.Telling.{told_all}
 use Rattle.sbp_world.proofs.parts.Parts.tell_all.Given as goal
 
 abbrev pub invariant-loop-side : goal.invariant-loop-side

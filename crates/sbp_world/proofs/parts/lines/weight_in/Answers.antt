@@ -1,5 +1,5 @@
-use Rattle.std.proofs.Common.{subst}
-use Rattle.sbp_initiator.specs.Acting.{IsAction}
+use Rattle.sbp_world.proofs.Words.Std.{subst}
+use Rattle.sbp_world.proofs.Words.Initiator.{IsAction}
 use Rattle.sbp_world.proofs.parts.lines.weight_in.Goals as goal
 
 pub weight_of-requires-clause-limit : goal.weight_of-requires-clause-limit

@@ -1,5 +1,5 @@
+use Rattle.sbp_world.proofs.Words.World.{new_initiators}
 use Rattle.std.specs.Prelude.{◌≡◌}
-use Rattle.sbp_world.specs.Making.{new_initiators}
 use Rattle.sbp_world.proofs.parts.making.new_initiators.Given as goal
 
 abbrev pub invariant-loop-number : goal.invariant-loop-number
