@@ -1,4 +1,4 @@
--- The history of a run of the machine keeps the laws of the wire, and those of the bus, where its events are those of lines.
+-- A run of the machine whose events are those of lines is lawful, and the terms of its history are the states of the nodes.
 use Rattle.std.proofs.Common.{◌≡◌, ◌∙◌, inr, refl, sym, ap, subst, ℕ, ◌+◌, ◌^◌, ◌<◌, ◌≤◌, Bool, List, [], ◌∷◌, length, arith}
 use Rattle.std.specs.List.{AllByRecursion}
 use Rattle.std.proofs.lemmas.List.{length-append}
@@ -9,32 +9,17 @@ use Rattle.sbp_world.specs.Worlds.{WorldState}
 use Rattle.rbc_disk.specs.Disk.{Disk}
 use Rattle.rbc_disk.specs.Held.{Held}
 use Rattle.sbp_journal.specs.Run.{Moment}
-use Rattle.sbp_laws.specs.Lawful.{FormAt, injectors}
-use Rattle.sbp_laws.specs.OnceLaw.{OnceLaw}
-use Rattle.sbp_laws.specs.Turns.{EachMoment}
-use Rattle.sbp_laws.specs.OnTheBus.{LawfulOnTheBus}
 use Rattle.journal_text.proofs.TextsBack.{texts_determine}
 use Rattle.sbp_world.specs.Forms.{AreTyped}
-use Rattle.sbp_world.proofs.Wire.Typed.{lawful_where_typed}
 use Rattle.sbp_command.proofs.Forms.{is_written}
-use Rattle.sbp_world.proofs.Lists.ListLaws.{list_laws}
-use Rattle.sbp_world.specs.Lists.ListLaws.{HasListLaws}
 use Rattle.sbp_world.proofs.Lists.GrantRuns.{few_logins_law}
 use Rattle.sbp_world.specs.Lists.FewLogins.{IsTameOrFew}
-use Rattle.sbp_world.specs.Wire.History.{IsOfWire}
-use Rattle.sbp_world.specs.Wire.Journal.{journal_run}
 use Rattle.sbp_world.specs.Wire.Lines.{AreLines}
 use Rattle.sbp_world.specs.Wire.States.{AreOpenLists, AreStates}
-use Rattle.sbp_world.proofs.Wire.Entries.{bus_law}
-use Rattle.sbp_world.proofs.Wire.Runs.{all_runs}
 use Rattle.sbp_world.proofs.Wire.States.{are_open_lists, are_states}
 use Rattle.sbp_world.specs.Hosts.Runs.{IsRun}
-use Rattle.sbp_world.specs.Hosts.Statuses.Finished.{TakesStatuses}
-use Rattle.sbp_world.proofs.Hosts.Statuses.Finished.{finished_law, once_taken_law}
-use Rattle.turn_laws.specs.Together.{LawfulInTurns}
-use Rattle.turn_laws.proofs.ActEntries.{action_run_law}
-use Rattle.turn_laws.proofs.Together.{turns_law}
-use Rattle.sbp_laws.specs.ActionLaw.{ActionLaw}
+use Rattle.turn_laws.specs.LawfulRuns.{IsLawfulRun}
+use Rattle.turn_laws.proofs.LawfulRuns.{lawful_runs_law}
 use Rattle.script_runner.specs.Events.{events_in, events_of, journal}
 use Rattle.script_runner.specs.Runner.{scene_of}
 use Rattle.sbp_command.specs.Machine.{HasRun}
@@ -61,26 +46,14 @@ module _ (line : ℕ) (run : Run) (few : run.initiators ≤ 4) (count : length r
   abbrev past : List Moment
   past = history_of line run
 
-  abbrev wild : ℕ → Bool
-  wild = injectors past
-
   short : length run.entries + 2 < 2 ^ 32
   short = omega arith
 
   is : IsRun run
   is = record { few = few; short = short; entries = all; lines = lines }
 
-  run_of_wire : IsOfWire past
-  run_of_wire = (all_runs.runs line run few short all lines).has_laws
-
-  run_takes : TakesStatuses past
-  run_takes = record { each = finished_law.each line run is wild; taken = finished_law.taken line run is; once = once_taken_law.once line run is }
-
   -- by what the media held at first
   module _ (start : Held) (same : run.start ≡ start) (units : run.units ≡ length start.disks) where
-    run_on_bus : AllByRecursion AreTyped run.entries → LawfulOnTheBus wild (journal_run line run)
-    run_on_bus = lawful_where_typed line run few (bus_law.lawful line run few (units ∙ ap (λ m. length m.disks) (sym same)) short all lines)
-
     over : (F : List Disk → Type 0) → F run.start.disks → F start.disks
     over F h = subst F (ap (λ (held : Held). held.disks) same) h
 
@@ -92,14 +65,8 @@ module _ (line : ℕ) (run : Run) (few : run.initiators ≤ 4) (count : length r
       given : IsTameOrFew past
       given = inr (few_logins_law.few line run is some most size (omega arith))
 
-      run_in_turns : LawfulInTurns start.disks past
-      run_in_turns = over (λ disks. LawfulInTurns disks past) (turns_law.after_lines line run is some most size)
-
-      run_lists : HasListLaws run.initiators start.disks past
-      run_lists = over (λ disks. HasListLaws run.initiators disks past) (list_laws line run is some most size given)
-
-      run_action : ActionLaw start.disks (journal_run line run).entries
-      run_action = over (λ disks. ActionLaw disks (journal_run line run).entries) (action_run_law line run is some most size)
+      run_laws : AllByRecursion AreTyped run.entries → IsLawfulRun line run
+      run_laws typed = lawful_runs_law.lawful line run is some most size typed given
 
       run_states : AreStates start.disks past (after (beginning run) run.entries)
       run_states = over (λ disks. AreStates disks past (after (beginning run) run.entries)) (are_states line run is some most size)
@@ -113,7 +80,6 @@ module _ (line : ℕ) (run : Run) (few : run.initiators ≤ 4) (count : length r
 pub has_run : (line : ℕ) (run : Run) (start media : Held) (world : WorldState) (happened : List (ℕ × Event)) → run.start ≡ start → run.units ≡ length start.disks → 0 < run.units → run.units ≤ 4 → run.initiators ≤ 4 → length run.entries ≤ 65535 → events_of line run ≡ happened
     → StandsFor run (scene_of world media) → AreLines run run.entries → AllByRecursion AreTyped run.entries → HasRun start happened (journal run) media
 has_run line run start media world happened same units some most few count events stands lines typed =
-    let on_bus = run_on_bus line run few count stands.lines lines start same units typed in
     let left : media ≡ (after (beginning run) run.entries).media = ap (λ s. s.media) stands.state in
     record {
       line = line;
@@ -126,13 +92,7 @@ has_run line run start media world happened same units some most few count event
       media_are = left;
       media_fit = run_fits run start media same few stands.lines left;
       leaves = run_leaves line run start media same few stands.lines left;
-      of_wire = run_of_wire line run few count stands.lines lines;
-      form = subst (EachMoment FormAt) (bus_law.tie line run) on_bus.form;
-      once = subst (OnceLaw (injectors (history_of line run))) (bus_law.tie line run) on_bus.once;
-      action = run_action line run few count stands.lines lines start same units some most;
-      statuses = run_takes line run few count stands.lines lines;
-      in_turns = run_in_turns line run few count stands.lines lines start same units some most;
-      lists = run_lists line run few count stands.lines lines start same units some most;
+      lawful = run_laws line run few count stands.lines lines start same units some most typed;
       states = run_states line run few count stands.lines lines start same units some most;
       open_lists = run_open_lists line run few count stands.lines lines start same units some most;
       written = is_written run few stands.lines typed;

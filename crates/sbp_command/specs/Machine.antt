@@ -9,23 +9,14 @@ use Rattle.sbp_journal.specs.Written.{IsWritten}
 use Rattle.media_laws.specs.Media.{LeavesMedia, media_after}
 use Rattle.sbp_world.specs.Histories.{history_of}
 use Rattle.sbp_world.specs.Runs.{AreEntries, Run, after, beginning}
-use Rattle.sbp_laws.specs.ActionLaw.{ActionLaw}
-use Rattle.sbp_laws.specs.Lawful.{FormAt, injectors}
-use Rattle.sbp_laws.specs.OnceLaw.{OnceLaw}
-use Rattle.sbp_laws.specs.Turns.{EachMoment}
-use Rattle.sbp_world.specs.Lists.ListLaws.{HasListLaws}
-use Rattle.sbp_world.specs.Wire.History.{IsOfWire}
-use Rattle.sbp_world.specs.Wire.Journal.{journal_run}
 use Rattle.sbp_world.specs.Wire.States.{AreOpenLists, AreStates}
-use Rattle.sbp_world.specs.Hosts.Statuses.Finished.{TakesStatuses}
-use Rattle.turn_laws.specs.Together.{LawfulInTurns}
+use Rattle.turn_laws.specs.LawfulRuns.{IsLawfulRun}
 use Rattle.script_runner.specs.Events.{events_of, journal}
 
 -- A run of the machine, over exactly these events and from what the media held at first: its notes, and what it leaves of the media. That is
--- what the notes alone say of them: each medium holds what the disk fold gives, and each failing run raised its count. And its history
--- keeps the laws of the wire; its notes have their form, a write is taken as new at most once, and its lines bring their notes, in order; the
--- statuses that it takes are those that are due; its turns keep the laws of turns, and its lists those of lists. The terms of its journal are the
--- states of the nodes as it ends. Its notes are written so that their text determines them: no other notes of such a form have it.
+-- what the notes alone say of them: each medium holds what the disk fold gives, and each failing run raised its count. The run is
+-- lawful. The terms of its journal are the states of the nodes as it ends. Its notes are written so that their text
+-- determines them: no other notes of such a form have it.
 pub record HasRun (start : Held) (happened : List (ℕ × Event)) (notes : List Note) (now : Held) : Type 0 where
   pub line : ℕ
   pub run : Run
@@ -37,13 +28,7 @@ pub record HasRun (start : Held) (happened : List (ℕ × Event)) (notes : List 
   pub media_are : now ≡ (after (beginning run) run.entries).media
   pub media_fit : now ≡ media_after (reverse notes) start
   pub leaves : LeavesMedia start (history_of line run) now
-  pub of_wire : IsOfWire (history_of line run)
-  pub form : EachMoment FormAt (history_of line run)
-  pub once : OnceLaw (injectors (history_of line run)) (history_of line run)
-  pub action : ActionLaw start.disks (journal_run line run).entries
-  pub statuses : TakesStatuses (history_of line run)
-  pub in_turns : LawfulInTurns start.disks (history_of line run)
-  pub lists : HasListLaws run.initiators start.disks (history_of line run)
+  pub lawful : IsLawfulRun line run
   pub states : AreStates start.disks (history_of line run) (after (beginning run) run.entries)
   pub open_lists : AreOpenLists start.disks (history_of line run) (after (beginning run) run.entries).world
   pub written : AllByRecursion IsWritten notes

@@ -48,7 +48,7 @@ good_word status word e = by (status == 0) refl e
     by true f g = record { zero_is = f; word_is = g }
     by false f g = absurd (let no : words.Other ≡ words.Abort = g in cc)
 
-abort_function : (function : Option Function) → word_by function ≡ words.Abort → function ≡ Some functions.Abort
+pub abort_function : (function : Option Function) → word_by function ≡ words.Abort → function ≡ Some functions.Abort
 abort_function None e = absurd (let no : words.Other ≡ words.Abort = e in cc)
 abort_function (Some functions.Login) e = absurd (let no : words.Login ≡ words.Abort = e in cc)
 abort_function (Some functions.Query) e = absurd (let no : words.Query ≡ words.Abort = e in cc)
@@ -117,6 +117,7 @@ module _ (t : Table) (table : IsTable t) (keys : List (List ℕ)) where
     pub decision : Decision
     pub brought : decided_by operation answer ≡ Some decided
     pub told : step.decided ≡ Some decision
+    pub function_is : decision.function ≡ decided.orb.function
     pub word_is : word_by (function_of decision.function) ≡ words.Abort
     pub zero_is : (decision.status == 0) ≡ true
     pub a_is : a ≡ decided.orb.first % 2 ^ 48
@@ -136,6 +137,7 @@ module _ (t : Table) (table : IsTable t) (keys : List (List ℕ)) where
           decision = record { function = orb.function; subject = orb.subject; status = number_of (decide orb own.source eui t keys).0.status; login = (decide orb own.source eui t keys).0.login };
           brought = e;
           told = refl;
+          function_is = ap (λ (x : ManagementOrb). x.function) (sym f);
           word_is = d.word_is;
           zero_is = d.zero_is;
           a_is = d.a_is ∙ ap (λ (x : ManagementOrb). x.first % 2 ^ 48) (sym f);

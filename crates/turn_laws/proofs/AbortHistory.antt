@@ -43,7 +43,7 @@ then_keeps : (m a b : Machine) → Keeps m a → Falls a b → Keeps m b
 then_keeps m a b g (same e f h) = λ x. ap (λ p. (awaits_run m.phase && (m.present == p)) && m.aborted) f ∙ (g (ap awaits_run (sym e) ∙ x) ∙ sym h)
 then_keeps m a b g (away e f) = λ x. untrue (sym e ∙ x)
 
-new_same : (q : ℕ) (plain : PlainDisk) (told : Option Told) (which : Which) (answer : Answer) → (reply_step new_machine q plain told which answer).1 ≡ new_machine
+pub new_same : (q : ℕ) (plain : PlainDisk) (told : Option Told) (which : Which) (answer : Answer) → (reply_step new_machine q plain told which answer).1 ≡ new_machine
 unfolding reply_step
 new_same q plain told Main answer = refl
 new_same q plain told Ahead answer = refl

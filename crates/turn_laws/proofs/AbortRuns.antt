@@ -70,10 +70,10 @@ nothing_marked x d c =
     ap (λ y. (x && y) || (d && y)) (and_false c) ∙ (ap (λ y. y || (d && false)) (and_false x) ∙ (and_false d ∙ sym (and_false (c && false))))
 
 -- ---- an agent that an abort may mark
-abbrev flagged : ℕ → Agent → Agent
+abbrev pub flagged : ℕ → Agent → Agent
 flagged orb a = record a { machine = abort_step a.machine orb }
 
-flag_unrun : (orb : ℕ) (a : Agent) (address : ℕ) → is_unrun (flagged orb a) address ≡ is_unrun a address
+pub flag_unrun : (orb : ℕ) (a : Agent) (address : ℕ) → is_unrun (flagged orb a) address ≡ is_unrun a address
 unfolding abort_step
 flag_unrun orb a address = refl
 
@@ -383,3 +383,6 @@ root_of (moment ∷ past) r = r
 
 pub each_marked : (start : List Disk) (past : List Moment) → IsRooted past → EachTurn (TurnFacts start) past → EachTurn (MarkedBefore start) past
 each_marked start past r e = (each start past [] (root_of past r) e).1
+
+pub all_marked : (start : List Disk) (past : List Moment) → IsRooted past → EachTurn (TurnFacts start) past → AreMarked start past
+all_marked start past r e = (each start past [] (root_of past r) e).0

@@ -1,5 +1,5 @@
 -- `asked` of the sent law: each request of the target that nothing wants as it is sent is the write of an unsolicited status to an initiator of which `unsolicited` stands before it in its turn, the first packet there to it: turn by turn, and so moment by moment.
-use Rattle.std.proofs.Common.{arith, ◌≡◌, ◌∙◌, refl, sym, subst, ℕ, zero, suc, ◌≤◌, ◌&&◌, Bool, true, false, cond, List, [], ◌∷◌, ◌++◌, map, None}
+use Rattle.std.proofs.Common.{arith, ◌≡◌, ◌∙◌, refl, sym, subst, zero, suc, ◌≤◌, ◌&&◌, Bool, true, false, cond, List, [], ◌∷◌, None}
 use Rattle.rbc_disk.specs.Disk.{Disk}
 use Rattle.sbp_journal.specs.Run.{Moment, asked, said}
 use Rattle.sbp_journal.specs.Wire.{terms}
@@ -13,14 +13,14 @@ use Rattle.sbp_laws.specs.SentLaw.{end_of}
 use Rattle.sbp_laws.specs.Targets.{taken_on, target_at}
 use Rattle.sbp_laws.specs.Turns.{EachMoment, EachTurn, EachTurnBefore, Turn, Where, is_sent, sends_of, turn}
 use Rattle.sbp_laws.specs.Unasked.{NoneUnasked, is_announced, is_push, is_unasked}
-use Rattle.sbp_world.specs.Histories.{history_of, moments_behind}
+use Rattle.sbp_world.specs.Histories.{history_of}
 use Rattle.sbp_world.specs.Hosts.Runs.{more_deliveries}
-use Rattle.sbp_world.specs.Runs.{Entry, Run}
 use Rattle.sbp_world.proofs.Common.{untrue}
 use Rattle.sbp_world.proofs.Lists.Courses.{more_than_one}
 use Rattle.sbp_world.proofs.Lists.Executes.{due_runs_law}
 use Rattle.turn_laws.specs.Asked.{AskedLaw}
 use Rattle.turn_laws.specs.Runs.{OfEveryRun, history_between}
+use Rattle.turn_laws.proofs.Begun.{IsBegun, IsReady, moments_begun, ready_more, ready_none, told_begun}
 use Rattle.turn_laws.proofs.EachTurns.{joined_law}
 use Rattle.turn_laws.proofs.PresentOrbs.{told_one}
 use Rattle.turn_laws.proofs.PushPlaces.{ArePlaced, placed_law}
@@ -63,15 +63,12 @@ module _ (start : List Disk) where
   unsent_at (notes.Sent serial generation from to bytes) past e = untrue (sym e)
   unsent_at note past e = tt
 
-  none_cons : {A : Type 0} (x : A) (xs : List A) → x ∷ xs ≡ [] → ⊥
-  none_cons x xs e = cc
-
   silent_hold : (ns : List Note) (past : List Moment) → sends_of ns ≡ [] → Hold past ns
   silent_hold [] past e = tt
   silent_hold (note ∷ ns) past e = by (λ g. silent_hold ns (said note ∷ past) g) (is_sent note) refl e
     where
       by : (sends_of ns ≡ [] → Hold (said note ∷ past) ns) → (b : Bool) → is_sent note ≡ b → cond b (note ∷ sends_of ns) (sends_of ns) ≡ [] → Hold past (note ∷ ns)
-      by later true f g = absurd (none_cons note (sends_of ns) g)
+      by later true f g = absurd (let no : note ∷ sends_of ns ≡ [] = g in cc)
       by later false f g = (unsent_at note past f, later g)
 
   module _ (t : Turn) (c : IsCalling start t) (own : AllOwn (end_of t)) where
@@ -104,38 +101,8 @@ module _ (start : List Disk) where
           let order = subst (λ x. OrdersTurn x t) c.begins so.sound.ordered in
           calling_hold t c so.sound.own t.rest (t.start ∷ t.past) refl (omega arith) (turn_due start t so.sound so.all so.placed so.runs c.inner order)
 
--- ---- from turns to moments: a history's first moment is a line
-abbrev HasMore : List Moment → Type 0
-HasMore [] = ⊥
-HasMore (moment ∷ past) = Unit {0}
-
-abbrev IsBegun : List Moment → Type 0
-IsBegun [] = Unit {0}
-IsBegun (asked line event ∷ past) = IsBegun past
-IsBegun (said note ∷ past) = HasMore past × IsBegun past
-
-told_begun : (told : List Note) (past : List Moment) → HasMore past → IsBegun past → IsBegun (map said told ++ past) × HasMore (map said told ++ past)
-told_begun [] past h b = (b, h)
-told_begun (note ∷ told) past h b = let k = told_begun told past h b in ((k.1, k.0), tt)
-
-moments_begun : (line : ℕ) (run : Run) (entries : List Entry) → IsBegun (moments_behind line run entries)
-moments_begun line run [] = (tt, tt)
-moments_begun line run (e ∷ before) = (told_begun e.notes (asked e.line e.event ∷ moments_behind line run before) tt (moments_begun line run before)).0
-
+-- ---- from turns to moments
 module _ (start : List Disk) (L : Turn → Type 0) (holds : (t : Turn) → L t → Hold start (t.start ∷ t.past) t.rest) where
-  abbrev IsReady : List Moment → List Note → Type 0
-  IsReady [] [] = Unit {0}
-  IsReady [] (note ∷ rest) = ⊥
-  IsReady (moment ∷ past) rest = Unit {0}
-
-  ready_none : (past : List Moment) → IsReady past []
-  ready_none [] = tt
-  ready_none (moment ∷ past) = tt
-
-  ready_more : (past : List Moment) (rest : List Note) → HasMore past → IsReady past rest
-  ready_more [] rest h = absurd h
-  ready_more (moment ∷ past) rest h = tt
-
   abbrev Both : List Moment → List Note → Type 0
   Both past rest = EachMoment (NoneUnasked start) past × Hold start past rest
 
@@ -178,10 +145,10 @@ pub asked_law : AskedLaw
 asked_law = record {
   after_lines = λ line run is some most size.
       let start = run.start.disks in
-      (moments start (IsSo start) (turn_holds start) (history_of line run) [] (moments_begun line run run.entries) (ready_none start (IsSo start) (turn_holds start) (history_of line run)) (so_law.after_lines line run is some most size)).0;
+      (moments start (IsSo start) (turn_holds start) (history_of line run) [] (moments_begun line run run.entries) (ready_none (history_of line run)) (so_law.after_lines line run is some most size)).0;
   between = λ line run is some most size next deliveries told may.
       let start = run.start.disks in
       let past = history_between line run next deliveries told in
       let begun = (told_begun _ (asked next _ ∷ history_of line run) tt (moments_begun line run run.entries)).0 in
-      (moments start (IsSo start) (turn_holds start) past [] begun (ready_none start (IsSo start) (turn_holds start) past) (so_law.between line run is some most size next deliveries told may)).0;
+      (moments start (IsSo start) (turn_holds start) past [] begun (ready_none past) (so_law.between line run is some most size next deliveries told may)).0;
 }

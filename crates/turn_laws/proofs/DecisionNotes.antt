@@ -78,10 +78,10 @@ use Rattle.turn_laws.proofs.Operators.{IsOperator, bus_names, laws_name, operato
 use Rattle.sbp_world.proofs.Agents.Management.Delivery.{marked_generations}
 
 -- ---- among the notes: those of the decisions that are told, as the target knows the nodes
-decision_kind : IsToldKind is_decision_note
+pub decision_kind : IsToldKind is_decision_note
 decision_kind = record { no_packet = λ serial generation from to bytes. refl }
 
-no_own : (note : Note) → IsNoRun note → is_decision_note note ≡ false
+pub no_own : (note : Note) → IsNoRun note → is_decision_note note ≡ false
 no_own (notes.Managed i function subject status login) h = absurd h
 no_own note h = refl
 

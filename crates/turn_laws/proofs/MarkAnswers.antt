@@ -422,7 +422,7 @@ module _ (ready : Bool) (serial generation : ℕ) (bytes : List ℕ) (past : Lis
         ∙ ap (λ o. says_dead (answer_of p) c.own o (Reads past i)) listed
         ∙ read_says (ending_of p) (answer_of p) (quad_read (ending_of p) (answer_of p) (closed_ends p label.number (purposes.State act list) refl c)) c.own s.lists.slots.present act list (Reads past i) s.states
         (zipped_map P (IsTied c.own act list) (tied c) (Reads past i) s.states pairs)
-        (lives_of ready i s h.pointed.cored.own.called s.target label.number act list c.at)
+        (lives_of ready i s h.pointed.cored.own.called s.target label.number (Some (purposes.State act list)) c.at act list refl)
       where
         same_of : (one : StateRead) (a : ℕ) (q : P one a) → ClosedFor finding (Some (purposes.State a q.list)) → (act ≡ a) × (list ≡ q.list)
         same_of one a q c = state_same act a list q.list (subst (λ x. ClosedFor x (Some (purposes.State a q.list))) f c)

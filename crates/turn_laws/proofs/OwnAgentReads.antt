@@ -35,7 +35,7 @@ listed_ends serial list _ answer present (here read reads e f) =
 listed_ends serial list _ answer present (later read reads e h) =
     ap (λ b. cond b (state_end read.list answer present) (read_ends reads serial answer present)) e ∙ listed_ends serial list reads answer present h
 
-none_answered : (operation : Option Underway) (serial : ℕ) (answer : Answer) (host : Host) → is_latest operation serial ≡ false → operation_answered operation serial answer host ≡ None
+pub none_answered : (operation : Option Underway) (serial : ℕ) (answer : Answer) (host : Host) → is_latest operation serial ≡ false → operation_answered operation serial answer host ≡ None
 none_answered None serial answer host e = refl
 none_answered (Some underway) serial answer host e = ap (λ b. cond b (request_answered underway.operation answer host) None) e
 

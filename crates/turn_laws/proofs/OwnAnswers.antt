@@ -39,6 +39,9 @@ pub data IsEndOf : Kind → Ending → Answer → Type 0 where
 pub quad_read : (ending : Ending) (answer : Answer) → IsEndOf reading_quadlet ending answer → IsRead ending answer
 quad_read _ _ (of_read ending answer r) = r
 
+pub write_end : (ending : Ending) (answer : Answer) → IsEndOf writing ending answer → answer ≡ write_answer ending
+write_end _ _ (of_write ending) = refl
+
 -- ---- what a response that is read gives
 quad_is : (value : ℕ) → value < 2 ^ 32 → quad (big_bytes 4 value) 0 ≡ value
 quad_is value small = ap (λ xs. big_number 4 xs) (sym (append_none (big_bytes 4 value))) ∙ big_number-reads_back 4 value [] small

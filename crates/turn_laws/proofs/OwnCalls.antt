@@ -16,7 +16,8 @@ use Rattle.sbp_initiator.proofs.FirstRow.{refusal_law}
 use Rattle.sbp_initiator.proofs.Histories.Known.{mark_law}
 use Rattle.sbp_initiator.proofs.Histories.Over.{counted_now, pointed_now, sound}
 use Rattle.sbp_initiator.proofs.Histories.Purposes.{IsOf, all_began, life_of}
-use Rattle.sbp_initiator.proofs.Histories.Runs.{FitsNow}
+use Rattle.sbp_initiator.proofs.Histories.Effects.{Fits}
+use Rattle.sbp_initiator.proofs.Histories.Runs.{FitsNow, IsEarlier, act_in}
 use Rattle.sbp_journal.specs.Outgoings.{empty_outbox}
 use Rattle.sbp_journal.specs.declared.event.Action.{Action}
 use Rattle.sbp_world.proofs.Hosts.Alone.{call_same}
@@ -79,7 +80,8 @@ module _ (ready : Bool) (i : ℕ) (s : InitiatorState) (own : IsCalled ready i s
       marks_step (act_call action) fit ∙ ap (λ r. learned (begins_list r action was.1) false false) (done_there action none)
       ∙ ap (λ (x : InitiatorState). learned (prepares action && not (is_some x.lists.slots.present)) false false) own.is
 
-  module _ (peer number act : ℕ) (list : Option ℕ) (a : At s.layer peer number (Some (purposes.State act list))) where
+  -- a request of it that is under way
+  module _ (peer number : ℕ) (purpose : Option Purpose) (a : At s.layer peer number purpose) where
     abbrev node : ℕ
     node = 0xffc1 + i
 
@@ -89,23 +91,32 @@ module _ (ready : Bool) (i : ℕ) (s : InitiatorState) (own : IsCalled ready i s
     abbrev layer_now : Layer Purpose
     layer_now = wire.after node layer_calls
 
-    b : At layer_now peer number (Some (purposes.State act list))
-    b = subst (λ (l : Layer Purpose). At l peer number (Some (purposes.State act list))) (sym ((sound i ready own.calls).wires.layer_is ∙ ap (λ (x : InitiatorState). x.layer) own.is)) a
+    b : At layer_now peer number purpose
+    b = subst (λ (l : Layer Purpose). At l peer number purpose) (sym ((sound i ready own.calls).wires.layer_is ∙ ap (λ (x : InitiatorState). x.layer) own.is)) a
 
     abbrev name : LabelParts
     name = record { number = number; generation = layer_now.generation; serial = b.serial }
 
-    pub lives_of : has_read act s.states ≡ true
-    lives_of =
+    pub lives_of : (act : ℕ) (list : Option ℕ) → purpose ≡ Some (purposes.State act list) → has_read act s.states ≡ true
+    lives_of act list e =
         subst (λ (x : InitiatorState). has_read act x.states ≡ true) own.is
-        ((sound i ready own.calls).wires.lives.has peer name b.kind act list (at_life node layer_calls peer number (Some (purposes.State act list)) b))
+        ((sound i ready own.calls).wires.lives.has peer name b.kind act list (at_life node layer_calls peer number purpose b ∙ ap (wire.under_way b.kind) e))
 
     abbrev Fitting : Purpose → Type 0
     Fitting = FitsNow was.1.operation was.1.counts.acts (counted_now i ready own.calls) (pointed_now i ready own.calls)
 
-    pub earlier_of : act < s.counts.acts
-    earlier_of =
-        let f : Fitting (purposes.State act list) =
-        subst (λ x. IsOf Fitting x) (at_life node layer_calls peer number (Some (purposes.State act list)) b)
-        (life_of Fitting peer name (wire.history node layer_calls) (all_began Fitting node layer_calls (sound i ready own.calls).wires.asks)) in
-        subst (λ (x : InitiatorState). act < x.counts.acts) own.is f.earlier
+    began : IsOf Fitting (wire.under_way b.kind purpose)
+    began =
+        subst (λ x. IsOf Fitting x) (at_life node layer_calls peer number purpose b)
+        (life_of Fitting peer name (wire.history node layer_calls) (all_began Fitting node layer_calls (sound i ready own.calls).wires.asks))
+
+    -- it is for an earlier action, and for the operation under way, where that is of its action
+    module _ (its : Purpose) (e : purpose ≡ Some its) where
+      fitting : Fitting its
+      fitting = subst (λ o. IsOf Fitting (wire.under_way b.kind o)) e began
+
+      pub earlier_of : IsEarlier (act_in its) s.counts.acts
+      earlier_of = subst (λ (x : InitiatorState). IsEarlier (act_in its) x.counts.acts) own.is fitting.earlier
+
+      pub fits_of : Fits its s.operation
+      fits_of = subst (λ (x : InitiatorState). Fits its x.operation) own.is fitting.fits

@@ -9,6 +9,7 @@ use Rattle.sbp_bus.specs.Requests.{find}
 use Rattle.sbp_bus.specs.declared.requests.Request.{Request}
 use Rattle.sbp_initiator.specs.Acting.{act_step}
 use Rattle.sbp_initiator.specs.Effects.{Turn}
+use Rattle.sbp_initiator.specs.Receiving.{receive_step}
 use Rattle.sbp_initiator.specs.declared.state.InitiatorState.{InitiatorState}
 use Rattle.sbp_journal.specs.Outgoings.{OutboxState, empty_outbox}
 use Rattle.sbp_journal.specs.Run.{Moment, asked, said}
@@ -25,7 +26,7 @@ use Rattle.sbp_laws.specs.Hosts.{host_at}
 use Rattle.sbp_laws.specs.Lists.{present_list}
 use Rattle.sbp_laws.specs.Operations.{at_initiator, got_notes, host_notes, reply_notes}
 use Rattle.sbp_laws.specs.Packets.{access_at, answered_at, receiver_in, sender_in}
-use Rattle.sbp_laws.specs.Turns.{turn}
+use Rattle.sbp_laws.specs.Turns.{Turn as LawTurn, turn}
 use Rattle.orb_layout.specs.Replies.{Expired}
 use Rattle.sbp_target.specs.Nodes as target
 use Rattle.sbp_target.specs.Receiving.{expired}
@@ -35,18 +36,19 @@ use Rattle.sbp_world.proofs.Hosts.Shows.{lapsing}
 use Rattle.sbp_world.specs.Lines.{weight_in}
 use Rattle.sbp_world.specs.Packets.{target_left}
 use Rattle.sbp_world.specs.Wire.Wires.{layers_of}
-use Rattle.sbp_world.specs.Worlds.{Scene, WorldState, initiator_at}
+use Rattle.sbp_world.specs.Delivering.{marked}
+use Rattle.sbp_world.specs.Worlds.{Scene, WorldState, initiator_at, with_initiator, with_note}
 use Rattle.turn_laws.proofs.Calls.{Brings, calls, injects, loses, refuses, refuses_action, resets, sets_key}
 use Rattle.turn_laws.proofs.Handed.{handed}
 use Rattle.turn_laws.proofs.Judgements.{row_there}
 use Rattle.turn_laws.proofs.KnownRuns.{KnowingCases, of_every_known}
 use Rattle.turn_laws.proofs.OwnActs.{AreQuiet, act_quiet, quiet_none}
-use Rattle.turn_laws.proofs.OwnEnded.{lapses_due, responses_due}
-use Rattle.turn_laws.proofs.OwnNotes.{target_none}
-use Rattle.turn_laws.proofs.OwnTurns.{got_due, late_due, same_resets, seen_due}
+use Rattle.turn_laws.proofs.OwnEnded.{lapses_due, responses_due, responses_end}
+use Rattle.turn_laws.proofs.OwnNotes.{Ends, ends_of, target_none}
+use Rattle.turn_laws.proofs.OwnTurns.{AreEnds, IsCalmWhere, IsDue, due_ends, got_by, late_due, same_resets, seen_due}
 use Rattle.turn_laws.proofs.Places.{Place}
 use Rattle.turn_laws.proofs.Timely.{Timely, untimed}
-use Rattle.turn_laws.specs.Operations.{OperationsStand, ReadsEndLaw, StandsWhereReadsEnd}
+use Rattle.turn_laws.specs.Operations.{OperationsHold, OperationsLaw, OperationsStand}
 
 line_stands : (line : ℕ) (s : Scene) (past : List Moment) (event : Event) (rest : List Note) → Brings line s event rest → OperationsStand (turn past (asked line event) rest)
 line_stands line s past event rest (calls is_event c) = refl
@@ -105,28 +107,40 @@ module _ (units ready : ℕ) (start : List Disk) where
       → OperationsStand (turn (hist past s.world) (asked line (events.Act i action)) (handed (i + 1) (weight_in action) outbox w))
   act_stands past s line i action outbox state w e = quiet_none (i + 1) (weight_in action) outbox w (subst (λ (r : Option ℕ × Turn). AreQuiet r.1.0.sides) e (act_quiet action (initiator_at s.world i)))
 
-  -- ---- where no transaction of an initiator ends but a read of a ROM or of AGENT_STATE
-  pub reads_end_cases : KnowingCases units ready start (Timely StandsWhereReadsEnd)
-  reads_end_cases = record {
-    heard = λ past s serial again run one found zero_to may others here behind judged k timely none.
-        target_none _ _ others ∙ sym (to_target (hist past s.world) serial (as_sending one) (was_sent s.world here.holds.sound.stands serial one found) zero_to _);
-    heard_own = λ past s serial again one i found to_is inside own here behind noted k timely none.
+  -- ---- each call
+  both : (t : LawTurn) → OperationsStand t → OperationsHold t
+  both t e = record { whole = λ calm. e; ends = sym (ends_of t.rest) ∙ ap Ends e }
+
+  pub operation_cases : KnowingCases units ready start (Timely OperationsHold)
+  operation_cases = record {
+    heard = λ past s serial again run one found zero_to may others here behind judged k timely.
+        both _ (target_none _ _ others ∙ sym (to_target (hist past s.world) serial (as_sending one) (was_sent s.world here.holds.sound.stands serial one found) zero_to _));
+    heard_own = λ past s serial again one i found to_is inside own here behind noted k timely.
         let there : one.to ≤ length s.world.initiators = omega (arith, to_is, inside) in
-        let old = initiator_at s.world i in
-        got_due units ready start past s here i inside serial one found to_is _ (here.holding i inside).responses
-        (λ none. responses_due units ready start past s here k i inside serial again one found to_is _ timely none) none noted.judged (row_there s.world here.holds.sound.stands serial one found there old.layer (ap (layers_of s.world) to_is));
-    late = λ past s serial request done t found node_is e others here behind judged k timely none. target_none t.outbox _ others ∙ sym (lapse_none past s here serial request done t found node_is e);
-    late_own = λ past s serial request i outbox state found node_is inside e own here behind judged k timely none.
-        late_due units ready start past s here i inside serial request found node_is _ (lapses_due units ready start past s here k i inside serial request found node_is _ timely none) outbox state e;
-    sees = λ past s others here behind judged k timely none. target_none _ _ others;
-    sees_own = λ past s i inside own here behind judged k timely none. seen_due units ready start past s here i inside (same_resets units ready start past s here i inside timely) _;
-    ticks = λ past s others here behind judged k timely none. target_none _ _ others;
-    ends = λ past s done here behind k timely none. end_stands (hist past s.world) done;
-    acts = λ past s line i action outbox state inside e own here behind k timely none. act_stands past s line i action outbox state _ e;
-    lines = λ past s line event rest behind brings fresh here there k timely none. line_stands line s (hist past s.world) event rest brings;
-    begins = λ line initiators is_ready timely none. refl;
+        let x = receive_step one.generation one.bytes empty_outbox (initiator_at s.world i) in
+        let v = with_note (judged_note serial x.0) (marked serial again (with_initiator i x.1.1 s.world)) in
+        let buffers = (here.holding i inside).responses in
+        let row = row_there s.world here.holds.sound.stands serial one found there (initiator_at s.world i).layer (ap (layers_of s.world) to_is) in
+        record {
+          whole = λ calm.
+              got_by units ready start past s here i inside serial one found to_is v (IsDue units ready start past s here i inside serial one found to_is v) (λ r e. e) (IsCalmWhere units ready start past s here i inside serial one found to_is v)
+              buffers (responses_due units ready start past s here k i inside serial again one found to_is v timely) calm noted.judged row;
+          ends =
+              got_by units ready start past s here i inside serial one found to_is v (AreEnds units ready start past s here i inside serial one found to_is v) (due_ends units ready start past s here i inside serial one found to_is v) (λ judged. Unit {0})
+              buffers (λ none. responses_end units ready start past s here k i inside serial again one found to_is v timely) tt noted.judged row;
+        };
+    late = λ past s serial request done t found node_is e others here behind judged k timely. both _ (target_none t.outbox _ others ∙ sym (lapse_none past s here serial request done t found node_is e));
+    late_own = λ past s serial request i outbox state found node_is inside e own here behind judged k timely.
+        both _ (late_due units ready start past s here i inside serial request found node_is _ (lapses_due units ready start past s here k i inside serial request found node_is _ timely) outbox state e);
+    sees = λ past s others here behind judged k timely. both _ (target_none _ _ others);
+    sees_own = λ past s i inside own here behind judged k timely. both _ (seen_due units ready start past s here i inside (same_resets units ready start past s here i inside timely) _);
+    ticks = λ past s others here behind judged k timely. both _ (target_none _ _ others);
+    ends = λ past s done here behind k timely. both _ (end_stands (hist past s.world) done);
+    acts = λ past s line i action outbox state inside e own here behind k timely. both _ (act_stands past s line i action outbox state _ e);
+    lines = λ past s line event rest behind brings fresh here there k timely. both _ (line_stands line s (hist past s.world) event rest brings);
+    begins = λ line initiators is_ready timely. both _ refl;
   }
 
--- in each turn in which no transaction of an initiator ends but a read of a ROM or of AGENT_STATE
-pub reads_end_law : ReadsEndLaw
-reads_end_law = untimed (λ start. StandsWhereReadsEnd) (of_every_known (λ start. Timely StandsWhereReadsEnd) (λ units ready start has. reads_end_cases units ready start))
+-- in each turn of every run
+pub operations_law : OperationsLaw
+operations_law = untimed (λ start. OperationsHold) (of_every_known (λ start. Timely OperationsHold) (λ units ready start has. operation_cases units ready start))

@@ -1,13 +1,27 @@
--- A turn in which a read of a ROM ends, or one of AGENT_STATE, brings what is due, at each place: it is answered by the target, or lapses.
-use Rattle.std.proofs.Common.{[], arith, ◌<◌, ◌∙◌, ◌∷◌, ◌≡◌, ◌==◌, ◌&&◌, ◌||◌, Bool, List, None, Ok, Option, Some, ap, false, length, not, refl, subst, suc, sym, true, ℕ}
+-- A turn in which a transaction of an initiator ends brings what is due, at each place: it is answered by the target, or lapses.
+use Rattle.std.proofs.Common.{◌<◌, ◌∙◌, ◌∷◌, ◌≡◌, ◌&&◌, arith, Bool, List, None, Ok, Option, Some, ap, false, length, not, refl, subst, suc, sym, true, ℕ}
+use Rattle.bus_transactions.specs.Wire.{as_sending, transaction}
+use Rattle.orb_layout.specs.Replies.{Answer, Expired, Refused}
+use Rattle.sbp_journal.specs.Transactions.{Kind, reading_quadlet, writing}
+use Rattle.sbp_laws.specs.Hosts.{Host, host_at, is_serial}
+use Rattle.sbp_laws.specs.OnceLaw.{is_write_in}
+use Rattle.sbp_laws.specs.Operations.{host_notes, is_management_write, reply_notes}
+use Rattle.sbp_laws.specs.Packets.{access_at, answer_in, answer_of, answered_at, packet_at, receiver_in}
+use Rattle.sbp_world.proofs.Common.{itself}
+use Rattle.sbp_world.specs.Lists.FewLogins.{IsCalmBeside}
+use Rattle.turn_laws.proofs.OwnAnswers.{IsEndOf, lapses, write_answer, write_end}
+use Rattle.turn_laws.proofs.OwnRoms.{AreApart}
+use Rattle.turn_laws.proofs.OwnUnderWay as ways
+use Rattle.turn_laws.proofs.OwnUnderWay.{rom_apart}
+use Rattle.turn_laws.proofs.ReadsUnderWay.{AreTimely}
+use Rattle.turn_laws.proofs.RequestKinds.{kind_for}
+use Rattle.turn_laws.proofs.RomEnds.{is_plain}
+use Rattle.sbp_world.specs.Pointers.Moments.{asked_in}
+use Rattle.turn_laws.specs.Operations.{conflicts_at, is_conflict, is_managed}
 use Rattle.async_packet.specs.Labels.{LabelParts}
 use Rattle.async_packet.specs.Packet.{Packet}
 use Rattle.bus_transactions.specs.Judging.{AreJudged}
-use Rattle.bus_transactions.specs.Reached.{IsAwaited}
-use Rattle.bus_transactions.specs.Wire.{as_sending, transaction}
 use Rattle.label_table.specs.Layer.{Finding, Layer, expiring_step, judging_step, of_response}
-use Rattle.label_table.specs.Peers.{purpose_for}
-use Rattle.orb_layout.specs.Replies.{Answer, Expired}
 use Rattle.packet_store.specs.Kept.{found_sent}
 use Rattle.packet_store.specs.declared.sent.Sent.{Sent}
 use Rattle.rbc_disk.specs.Disk.{Disk}
@@ -16,67 +30,35 @@ use Rattle.sbp_bus.specs.declared.requests.Request.{Request}
 use Rattle.sbp_initiator.specs.Effects.{Turn as Call, ended_for, ended_step}
 use Rattle.sbp_initiator.specs.Receiving.{called, received}
 use Rattle.sbp_initiator.specs.States.{ending_of}
-use Rattle.sbp_initiator.specs.declared.purpose.Ending.{Ending}
 use Rattle.sbp_initiator.specs.declared.purpose.Ending.TheVariants as endings
 use Rattle.sbp_initiator.specs.declared.purpose.Purpose.{Purpose}
 use Rattle.sbp_initiator.specs.declared.purpose.Purpose.TheVariants as purposes
 use Rattle.sbp_initiator.specs.declared.state.InitiatorState.{InitiatorState}
-use Rattle.sbp_journal.specs.Addresses.{Access}
 use Rattle.sbp_journal.specs.Outgoings.{empty_outbox}
 use Rattle.sbp_journal.specs.Run.{Moment, said}
-use Rattle.sbp_journal.specs.Transactions.{Kind, Transaction, locking, reading_quadlet, request, writing}
 use Rattle.sbp_journal.specs.Wire.{Terms, terms, waits}
+use Rattle.sbp_journal.specs.Addresses.{Access}
+use Rattle.sbp_journal.specs.declared.cause.Judged.{Judged}
+use Rattle.sbp_journal.specs.declared.cause.Judged.TheVariants as judgements
 use Rattle.sbp_journal.specs.declared.note.Note.TheVariants as notes
-use Rattle.sbp_laws.specs.Hosts.{Host, StateRead, host_at, is_latest, is_present, is_rom}
 use Rattle.sbp_laws.specs.Lists.{present_list}
-use Rattle.sbp_laws.specs.OnceLaw.{is_write_in}
-use Rattle.sbp_laws.specs.Operations.{host_notes, reply_notes}
-use Rattle.sbp_laws.specs.Packets.{access_at, access_in, access_in_bytes, answer_of, answered_at, packet_in, receiver_in}
 use Rattle.sbp_world.proofs.Agents.Management.Hearing.{IsAnswer}
 use Rattle.sbp_world.proofs.Agents.Management.Still.{hist}
-use Rattle.sbp_world.proofs.Common.{equal, untrue}
-use Rattle.sbp_world.proofs.Hosts.KnowActs.{not_not}
 use Rattle.sbp_world.proofs.Hosts.Lives.{At}
-use Rattle.sbp_world.proofs.Hosts.PointerNotes.{Fit}
-use Rattle.sbp_world.proofs.Wire.Starts.{laws_of}
 use Rattle.sbp_world.specs.Worlds.{Scene, WorldState, initiator_at}
 use Rattle.turn_laws.proofs.Handed.{handed}
 use Rattle.turn_laws.proofs.HostRequests.{finds_next}
-use Rattle.turn_laws.proofs.HostRoms.{Rom}
 use Rattle.turn_laws.proofs.KnownRuns.{Known}
 use Rattle.turn_laws.proofs.OwnNotes.{Ops}
-use Rattle.turn_laws.proofs.OwnAgentReads.{IsListed, state_due}
-use Rattle.turn_laws.proofs.OwnAgentReads as agent_reads
-use Rattle.turn_laws.proofs.OwnAnswers.{IsRead, lapses}
 use Rattle.turn_laws.proofs.OwnEnds.{Says}
-use Rattle.turn_laws.proofs.OwnRoms.{AreApart, for_other, for_rom, for_state, reads_for}
 use Rattle.turn_laws.proofs.OwnRoms as roms
 use Rattle.turn_laws.proofs.OwnTurns as turns
-use Rattle.turn_laws.proofs.OwnTurns.{Lapses, Responds}
+use Rattle.turn_laws.proofs.OwnTurns.{Lapses, RespondsSo}
 use Rattle.turn_laws.proofs.Places.{Place}
-use Rattle.turn_laws.proofs.MarkAnswers.{counts_same}
-use Rattle.turn_laws.proofs.ReadPairs.{AreZipped}
-use Rattle.turn_laws.proofs.ReadsBeside.{read_not_latest}
-use Rattle.turn_laws.proofs.ReadsUnderWay.{AreTimely, IsPair, one_transaction}
-use Rattle.turn_laws.proofs.RequestKinds.{bytes_kind, kind_if, kind_of}
 use Rattle.turn_laws.proofs.RomKnown as known
 use Rattle.turn_laws.proofs.RomKnown.{KnownOf}
 use Rattle.turn_laws.proofs.RomLabels.{IsRom}
 use Rattle.turn_laws.proofs.RomTies.{RomOf}
-use Rattle.turn_laws.specs.Operations.{ends_other, ends_own, is_read, reads_state}
-
--- ---- the read of a quadlet writes nothing
-kind_reads : (access : Option Access) → kind_of access ≡ Some reading_quadlet → is_write_in access ≡ false
-kind_reads None e = refl
-kind_reads (Some access) e = by access.is_lock access.is_write access.is_block e
-  where
-    by : (l w b : Bool) → Some (kind_if l w b) ≡ Some reading_quadlet → w ≡ false
-    by l false b e = refl
-    by true true b e = absurd (let no : Some locking ≡ Some reading_quadlet = e in cc)
-    by false true b e = absurd (let no : Some writing ≡ Some reading_quadlet = e in cc)
-
-rom_apart : (purpose : Option Purpose) (act : ℕ) → purpose ≡ Some (purposes.Rom act) → (other : ℕ) (list : Option ℕ) → purpose ≡ Some (purposes.State other list) → ⊥
-rom_apart purpose act rom_is other list g = (let no : Some (purposes.Rom act) ≡ Some (purposes.State other list) = sym rom_is ∙ g in cc)
 
 module _ (units ready : ℕ) (start : List Disk) (past : List Moment) (s : Scene) (here : Place units ready start past s) (k : Known start (hist past s.world) s) (i : ℕ) (inside : i < length s.world.initiators) where
   abbrev old : InitiatorState
@@ -97,114 +79,11 @@ module _ (units ready : ℕ) (start : List Disk) (past : List Moment) (s : Scene
   abbrev known_here : KnownOf ms i old
   known_here = k.1.each i inside
 
-  quads_here : old.quads ≡ host.quads
-  quads_here = sym (ap (λ (r : Rom). r.quads) known_here.is)
-
-  fit : Fit ms
-  fit = (let laws = laws_of past s.world here.holds.sound.stands in record { serials = laws.serials; sent = laws.sent })
-
-  -- ---- a request under way
-  module _ (number : ℕ) (purpose : Option Purpose) (there : At old.layer old.target number purpose) (kind : Kind) (own : ℕ) (held : wire.held (transaction old.layer.generation (suc i) 0 number) ≡ waits kind own) where
-    awaits : IsAwaited wire (transaction old.layer.generation (suc i) 0 number) kind own
-    awaits = known.waits_here units ready start past s here i inside rom number purpose there kind own held
-
-    -- the read of a quadlet is no write
-    reads_it : kind ≡ reading_quadlet → is_write_in (access_at wire own) ≡ false
-    reads_it quad =
-        ap (λ x. is_write_in (access_in (packet_in x))) awaits.sent
-        ∙ kind_reads (access_in_bytes awaits.packet.bytes) (bytes_kind awaits.packet.bytes number reading_quadlet (awaits.part ∙ ap (request number) quad))
-
-    rom_quad : (act : ℕ) → purpose ≡ Some (purposes.Rom act) → kind ≡ reading_quadlet
-    rom_quad act rom_is = known.awaits_quad units ready start past s here i inside rom number purpose there kind own held act rom_is
-
-    state_quad : (act : ℕ) (list : Option ℕ) → purpose ≡ Some (purposes.State act list) → kind ≡ reading_quadlet
-    state_quad act list state_is =
-        let w = (here.reads i inside).paired.kinds fit number (purposes.State act list) refl (subst (λ x. At old.layer old.target number x) state_is there) in
-        let same : waits kind own ≡ waits reading_quadlet w.serial = sym held ∙ w.held in
-        cc
-
-    -- and the reads of AGENT_STATE under way
-    module _ (timely : AreTimely ms) where
-      pairs : AreZipped (IsPair ms i old) host.reads old.states
-      pairs = (here.reads i inside).paired.pairs fit timely
-
-      -- of the same serial, it is this one
-      purpose_is : (read : StateRead) (act : ℕ) (p : IsPair ms i old read act) → (read.serial == own) ≡ true → purpose ≡ Some (purposes.State act p.list)
-      purpose_is read act p e =
-          let u = transaction old.layer.generation (suc i) 0 p.number in
-          let v = transaction old.layer.generation (suc i) 0 number in
-          let same : u ≡ v = one_transaction ms fit.serials u v p.kind kind own (p.held ∙ ap (waits p.kind) (equal read.serial own e)) held in
-          let label : p.number ≡ number = ap (λ (x : Transaction). x.label) same in
-          sym there.is_for ∙ ap (purpose_for old.layer.peers old.target) (sym label) ∙ p.at.is_for
-
-      module _ (other : (act : ℕ) (list : Option ℕ) → purpose ≡ Some (purposes.State act list) → ⊥) where
-        pair_apart : (read : StateRead) (act : ℕ) → IsPair ms i old read act → (b : Bool) → (read.serial == own) ≡ b → (read.serial == own) ≡ false
-        pair_apart read act p false e = e
-        pair_apart read act p true e = absurd (other act p.list (purpose_is read act p e))
-
-        all_apart : (reads : List StateRead) (acts : List ℕ) → AreZipped (IsPair ms i old) reads acts → AreApart own reads
-        all_apart [] [] z = tt
-        all_apart (read ∷ reads) (act ∷ acts) z = (pair_apart read act z.0 (read.serial == own) refl, all_apart reads acts z.1)
-        all_apart [] (act ∷ acts) z = absurd z
-        all_apart (read ∷ reads) [] z = absurd z
-
-        apart : AreApart own host.reads
-        apart = all_apart host.reads old.states pairs
-
-      module _ (act : ℕ) (list : Option ℕ) (state_is : purpose ≡ Some (purposes.State act list)) where
-        list_is : (read : StateRead) (other : ℕ) → IsPair ms i old read other → (read.serial == own) ≡ true → read.list ≡ list
-        list_is read other p e =
-            let same : Some (purposes.State other p.list) ≡ Some (purposes.State act list) = sym (purpose_is read other p e) ∙ state_is in
-            let lists : p.list ≡ list = cc in
-            p.named ∙ lists
-
-        abbrev Lists : List StateRead → Type 0
-        Lists reads = reads_state reads own ≡ true → IsListed own list reads
-
-        listed_by : (read : StateRead) (other : ℕ) (reads : List StateRead) → IsPair ms i old read other → (b : Bool) → (read.serial == own) ≡ b → (b || reads_state reads own) ≡ true → Lists reads → IsListed own list (read ∷ reads)
-        listed_by read other reads p true e f more = agent_reads.here read reads e (list_is read other p e)
-        listed_by read other reads p false e f more = agent_reads.later read reads e (more f)
-
-        all_listed : (reads : List StateRead) (acts : List ℕ) → AreZipped (IsPair ms i old) reads acts → Lists reads
-        all_listed [] acts z e = untrue e
-        all_listed (read ∷ reads) (other ∷ acts) z e = listed_by read other reads z.0 (read.serial == own) refl e (all_listed reads acts z.1)
-        all_listed (read ∷ reads) [] z e = absurd z
-
-        listed : Lists host.reads
-        listed e = all_listed host.reads old.states pairs e
-
-    -- ---- what the law says of it
-    none_listed : (reads : List StateRead) → AreApart own reads → reads_state reads own ≡ false
-    none_listed [] a = refl
-    none_listed (read ∷ reads) a = ap (λ b. b || reads_state reads own) a.0 ∙ none_listed reads a.1
-
-    no_rom : ((act : ℕ) → purpose ≡ Some (purposes.Rom act) → ⊥) → (is_rom host.operation && is_latest host.operation own) ≡ false
-    no_rom other = known.awaits_other units ready start past s here i inside rom number purpose there kind own held other host.operation refl
-
-    other_ends : AreTimely ms → ((act : ℕ) → purpose ≡ Some (purposes.Rom act) → ⊥) → ((act : ℕ) (list : Option ℕ) → purpose ≡ Some (purposes.State act list) → ⊥) → is_read host own ≡ false
-    other_ends timely not_rom not_state =
-        ap (λ b. b || reads_state host.reads own) (no_rom not_rom) ∙ none_listed host.reads (apart timely not_state)
-
-    -- a read of AGENT_STATE that it says is one, is under way by the terms
-    module _ (act : ℕ) (list : Option ℕ) (state_is : purpose ≡ Some (purposes.State act list)) (said_so : is_read host own ≡ true) where
-      state_there : reads_state host.reads own ≡ true
-      state_there =
-          sym (ap (λ b. b || reads_state host.reads own) (no_rom (λ other g. (let no : Some (purposes.State act list) ≡ Some (purposes.Rom other) = sym state_is ∙ g in cc))))
-          ∙ said_so
-
-      state_apart : is_latest host.operation own ≡ false
-      state_apart = read_not_latest ms i own fit.serials state_there
-
-      -- what is told as it ends is due
-      state_says : AreTimely ms → (l : Layer Purpose) (ending : Ending) (answer : Answer) → IsRead ending answer → Says empty_outbox (ended_for (Some (purposes.State act list)) ending empty_outbox (called (record old { layer = l }))) (reply_notes old.number host (present_list ms i) (access_at wire own) own answer)
-      unfolding ended_step
-      state_says timely l ending answer read =
-          state_due own (called (record old { layer = l })) host (present_list ms i) (access_at wire own) empty_outbox act list (listed timely act list state_is state_there) state_apart (reads_it (state_quad act list state_is))
-          (turns.drops units ready start past s here i inside)
-          (sym (counts_same list old.lists.slots.present) ∙ ap (is_present list) (sym (here.hosts i inside).rows.fits.present)) ending answer read
+  quads : old.quads ≡ host.quads
+  quads = ways.quads_here units ready start past s here k i inside
 
   -- ---- a packet that it hears
-  module _ (serial : ℕ) (again : Bool) (one : Sent) (found : found_sent serial s.world.store.kept ≡ Some one) (to_is : one.to ≡ suc i) (w : WorldState) (timely : AreTimely ms) (none : ends_own (said (notes.Got serial)) ms ≡ false) where
+  module _ (serial : ℕ) (again : Bool) (one : Sent) (found : found_sent serial s.world.store.kept ≡ Some one) (to_is : one.to ≡ suc i) (w : WorldState) (timely : AreTimely ms) where
     module _ (p : Packet) (label : LabelParts) (purpose : Option Purpose) (new : Layer Purpose) (e : judging_step old.layer one.generation one.bytes ≡ (of_response p label purpose, new)) (judged : AreJudged (said (notes.Got serial) ∷ ms)) where
       abbrev finding : (judging_step old.layer one.generation one.bytes).0 ≡ of_response p label purpose
       finding = ap (λ (r : Finding Purpose × Layer Purpose). r.0) e
@@ -215,8 +94,14 @@ module _ (units ready : ℕ) (start : List Disk) (past : List Moment) (s : Scene
       abbrev closed : InitiatorState
       closed = called (record old { layer = new })
 
+      abbrev response : Judged × Call
+      response = received (of_response p label purpose, new) one.bytes empty_outbox old
+
       abbrev IsDue : Type 0
-      IsDue = turns.IsDue units ready start past s here i inside serial one found to_is w (received (of_response p label purpose, new) one.bytes empty_outbox old)
+      IsDue = turns.IsDue units ready start past s here i inside serial one found to_is w response
+
+      abbrev AreEnds : Type 0
+      AreEnds = turns.AreEnds units ready start past s here i inside serial one found to_is w response
 
       there : At old.layer old.target label.number purpose
       there = known.there units ready start past s here i inside rom serial one found to_is p label purpose finding judged
@@ -224,15 +109,23 @@ module _ (units ready : ℕ) (start : List Disk) (past : List Moment) (s : Scene
       held : wire.held (transaction old.layer.generation (suc i) 0 label.number) ≡ waits a.waited a.own
       held = known.held_is units ready start past s here i inside rom serial one found to_is p label purpose finding judged
 
-      -- it ends the request
-      ends_it : ends_own (said (notes.Got serial)) ms ≡ not (is_read host a.own)
-      ends_it =
-          ap (λ so. ends_other ms (receiver_in so) (answered_at wire serial)) (turns.was_it units ready start past s here i inside serial one found to_is w)
-          ∙ ap (λ n. ends_other ms (Some n) (answered_at wire serial)) to_is
-          ∙ ap (λ x. ends_other ms (Some (suc i)) x) a.answered
+      abbrev CalmWhere : Type 0
+      CalmWhere = turns.IsCalmWhere units ready start past s here i inside serial one found to_is w judgements.Got
 
-      said_so : is_read host a.own ≡ true
-      said_so = not_not (is_read host a.own) (sym ends_it ∙ none)
+      abbrev conflicts_here : Option ℕ → Answer → Bool
+      conflicts_here own answer = conflicts_at ms i own answer
+
+      -- where conflict_error answers a write to MANAGEMENT_AGENT that is of no operation of management, it injected no packets
+      calm_here : CalmWhere → is_conflict (answer_of p) ≡ true → is_management_write host (access_at wire a.own) ≡ true → is_managed (asked_in ms a.own i) ≡ false → IsCalmBeside ms i
+      calm_here calm conflict there other =
+          calm i
+          (ap (λ so. is_serial (receiver_in so) (suc i) && conflicts_here (answered_at wire serial) (answer_in (packet_at wire serial))) (turns.was_it units ready start past s here i inside serial one found to_is w)
+          ∙ ap (λ n. is_serial (Some n) (suc i) && conflicts_here (answered_at wire serial) (answer_in (packet_at wire serial))) to_is
+          ∙ ap (λ b. b && conflicts_here (answered_at wire serial) (answer_in (packet_at wire serial))) (itself (suc i))
+          ∙ ap (λ x. conflicts_here x (answer_in (packet_at wire serial))) a.answered
+          ∙ ap (λ x. conflicts_here (Some a.own) (answer_in x)) (known.packet_is units ready start past s here i inside rom serial one found to_is p (known.read units ready start past s here i inside rom serial one found to_is p label purpose finding judged))
+          ∙ ap (λ b. b && is_management_write host (access_at wire a.own) && not (is_managed (asked_in ms a.own i))) conflict
+          ∙ ap (λ b. b && not (is_managed (asked_in ms a.own i))) there ∙ ap not other)
 
       -- of a read of a ROM
       module _ (act : ℕ) (rom_is : purpose ≡ Some (purposes.Rom act)) where
@@ -243,45 +136,93 @@ module _ (units ready : ℕ) (start : List Disk) (past : List Moment) (s : Scene
         latest = known.latest units ready start past s here i inside rom serial one found to_is p label purpose finding judged act rom_is
 
         apart_here : AreApart a.own host.reads
-        apart_here = apart label.number purpose there a.waited a.own held timely (rom_apart purpose act rom_is)
+        apart_here = ways.apart units ready start past s here k i inside label.number purpose there a.waited a.own held timely (rom_apart purpose act rom_is)
 
         reads_here : is_write_in (access_at wire a.own) ≡ false
-        reads_here = reads_it label.number purpose there a.waited a.own held (rom_quad label.number purpose there a.waited a.own held act rom_is)
+        reads_here = ways.reads_it units ready start past s here k i inside label.number purpose there a.waited a.own held (ways.rom_quad units ready start past s here k i inside label.number purpose there a.waited a.own held act rom_is)
 
-        goes_on : roms.GoesOn a.own closed host (present_list ms i) (access_at wire a.own) empty_outbox act runs latest apart_here reads_here quads_here
+        goes_on : roms.GoesOn a.own closed host (present_list ms i) (access_at wire a.own) empty_outbox act runs latest apart_here reads_here quads
         goes_on value = finds_next units ready start past s here k i inside serial again one found to_is p label purpose new e judged s.world (record { last = refl; generations = refl }) _ (omega arith) act
 
         rom_due : IsDue
         unfolding ended_step
         rom_due =
             turns.answer_tells units ready start past s here i inside serial one found to_is w p label purpose finding a.own a.answered (ended_for purpose (ending_of p) empty_outbox closed)
-            (subst (λ x. roms.Due a.own closed host (present_list ms i) (access_at wire a.own) empty_outbox act runs latest apart_here reads_here quads_here (answer_of p) (ended_for x (ending_of p) empty_outbox closed)) (sym rom_is)
-            (roms.answer_due a.own closed host (present_list ms i) (access_at wire a.own) empty_outbox act runs latest apart_here reads_here quads_here
+            (subst (λ x. roms.Due a.own closed host (present_list ms i) (access_at wire a.own) empty_outbox act runs latest apart_here reads_here quads (answer_of p) (ended_for x (ending_of p) empty_outbox closed)) (sym rom_is)
+            (roms.answer_due a.own closed host (present_list ms i) (access_at wire a.own) empty_outbox act runs latest apart_here reads_here quads
             (known_here.few runs.running runs.is runs.kind) goes_on (ending_of p) (answer_of p) (known.reads units ready start past s here i inside rom serial one found to_is p label purpose finding judged act rom_is)))
 
       -- of a read of AGENT_STATE
       state_answered : (act : ℕ) (list : Option ℕ) → purpose ≡ Some (purposes.State act list) → IsDue
       unfolding ended_step
-      state_answered act list state_is =
-          let quad = state_quad label.number purpose there a.waited a.own held act list state_is in
+      state_answered act list is =
+          let quad : a.waited ≡ reading_quadlet = ways.kind_is units ready start past s here k i inside label.number purpose there a.waited a.own held (purposes.State act list) refl is in
           turns.answer_tells units ready start past s here i inside serial one found to_is w p label purpose finding a.own a.answered (ended_for purpose (ending_of p) empty_outbox closed)
-          (ap (λ x. (ended_for x (ending_of p) empty_outbox closed).0.sides) state_is
-          ∙ state_says label.number purpose there a.waited a.own held act list state_is said_so timely new (ending_of p) (answer_of p)
+          (ap (λ x. (ended_for x (ending_of p) empty_outbox closed).0.sides) is
+          ∙ ways.state_says units ready start past s here k i inside label.number purpose there a.waited a.own held timely act list is new (ending_of p) (answer_of p)
           (known.quad_answers units ready start past s here i inside rom serial one found to_is p label purpose finding judged quad))
 
-      response_due : IsDue
-      response_due = by (reads_for purpose)
-        where
-          by : roms.ReadsFor purpose → IsDue
-          by (for_rom act f) = rom_due act f
-          by (for_state act list f) = state_answered act list f
-          by (for_other not_rom not_state) = untrue (sym (other_ends label.number purpose there a.waited a.own held timely not_rom not_state) ∙ said_so)
+      -- of a write
+      module _ (its : Purpose) (plain : is_plain its ≡ true) (writes : kind_for its ≡ writing) (is : purpose ≡ Some its) where
+        abbrev ended : Call
+        ended = ended_for purpose (ending_of p) empty_outbox closed
 
-    pub responses_due : Responds units ready start past s here i inside serial one found to_is w
-    responses_due p label purpose l e judged = response_due p label purpose l e judged
+        waited : a.waited ≡ writing
+        waited = ways.kind_is units ready start past s here k i inside label.number purpose there a.waited a.own held its plain is ∙ writes
+
+        answer : answer_of p ≡ write_answer (ending_of p)
+        answer = write_end (ending_of p) (answer_of p) (subst (λ x. IsEndOf x (ending_of p) (answer_of p)) waited (known.packet_answers units ready start past s here i inside rom serial one found to_is p label purpose finding judged))
+
+        -- what it tells
+        abbrev SaysFor : Option Access → Type 0
+        SaysFor access = Says empty_outbox ended (reply_notes old.number host (present_list ms i) access a.own (answer_of p))
+
+        says_for : (access : Option Access) → ways.WriteDue units ready start past s here k i inside label.number purpose there a.waited a.own held timely new (ending_of p) access its → SaysFor access
+        says_for access says =
+            subst (λ x. Says empty_outbox ended (reply_notes old.number host (present_list ms i) access a.own x)) (sym answer) (ap (λ x. (ended_for x (ending_of p) empty_outbox closed).0.sides) is ∙ says)
+
+        write_due : CalmWhere → IsDue
+        write_due calm =
+            let write = ways.writes_it units ready start past s here k i inside label.number purpose there a.waited a.own held waited in
+            turns.answer_tells units ready start past s here i inside serial one found to_is w p label purpose finding a.own a.answered ended
+            (says_for (access_at wire a.own)
+            (ways.write_says units ready start past s here k i inside label.number purpose there a.waited a.own held timely new (ending_of p) its writes is (access_at wire a.own) write
+            (λ e. ways.its_aims units ready start past s here k i inside label.number purpose there a.waited a.own held timely its plain is write
+            (λ other at. calm_here calm (ap is_conflict (answer ∙ e)) at (ways.its_action units ready start past s here k i inside label.number purpose there a.waited a.own held timely its plain is ∙ other)))))
+
+        write_ends : AreEnds
+        write_ends =
+            let t = ways.write_ends units ready start past s here k i inside label.number purpose there a.waited a.own held timely new (ending_of p) its writes is in
+            turns.answer_ends units ready start past s here i inside serial one found to_is w p label purpose finding a.own a.answered ended t.access (says_for t.access t.says)
+
+      response_due : CalmWhere → (x : Option Purpose) → purpose ≡ x → IsDue
+      response_due calm (Some (purposes.Rom act)) f = rom_due act f
+      response_due calm (Some (purposes.State act list)) f = state_answered act list f
+      response_due calm (Some (purposes.Pointer list)) f = write_due (purposes.Pointer list) refl refl f calm
+      response_due calm (Some purposes.Doorbell) f = write_due purposes.Doorbell refl refl f calm
+      response_due calm (Some (purposes.AgentReset act)) f = write_due (purposes.AgentReset act) refl refl f calm
+      response_due calm (Some (purposes.Enable act)) f = write_due (purposes.Enable act) refl refl f calm
+      response_due calm (Some (purposes.Management act)) f = write_due (purposes.Management act) refl refl f calm
+      response_due calm None f = absurd (ways.never_nobodys units ready start past s here k i inside label.number (subst (λ x. At old.layer old.target label.number x) f there))
+
+      response_ends : (x : Option Purpose) → purpose ≡ x → AreEnds
+      response_ends (Some (purposes.Rom act)) f = turns.due_ends units ready start past s here i inside serial one found to_is w response (rom_due act f)
+      response_ends (Some (purposes.State act list)) f = turns.due_ends units ready start past s here i inside serial one found to_is w response (state_answered act list f)
+      response_ends (Some (purposes.Pointer list)) f = write_ends (purposes.Pointer list) refl refl f
+      response_ends (Some purposes.Doorbell) f = write_ends purposes.Doorbell refl refl f
+      response_ends (Some (purposes.AgentReset act)) f = write_ends (purposes.AgentReset act) refl refl f
+      response_ends (Some (purposes.Enable act)) f = write_ends (purposes.Enable act) refl refl f
+      response_ends (Some (purposes.Management act)) f = write_ends (purposes.Management act) refl refl f
+      response_ends None f = absurd (ways.never_nobodys units ready start past s here k i inside label.number (subst (λ x. At old.layer old.target label.number x) f there))
+
+    pub responses_due : turns.IsCalmWhere units ready start past s here i inside serial one found to_is w judgements.Got → RespondsSo units ready start past s here i inside serial one found to_is w (turns.IsDue units ready start past s here i inside serial one found to_is w) (λ r e. e)
+    responses_due calm p label purpose l e judged = response_due p label purpose l e judged calm purpose refl
+
+    pub responses_end : RespondsSo units ready start past s here i inside serial one found to_is w (turns.AreEnds units ready start past s here i inside serial one found to_is w) (turns.due_ends units ready start past s here i inside serial one found to_is w)
+    responses_end p label purpose l e judged = response_ends p label purpose l e judged purpose refl
 
   -- ---- a request that lapses
-  module _ (serial : ℕ) (asked : Request) (found : find s.world.requests serial ≡ Some asked) (node_is : asked.node ≡ suc i) (w : WorldState) (timely : AreTimely ms) (none : ends_own (said (notes.TimedOut serial)) ms ≡ false) where
+  module _ (serial : ℕ) (asked : Request) (found : find s.world.requests serial ≡ Some asked) (node_is : asked.node ≡ suc i) (w : WorldState) (timely : AreTimely ms) where
     abbrev number : ℕ
     number = asked.label.number
 
@@ -294,11 +235,6 @@ module _ (units ready : ℕ) (start : List Disk) (past : List Moment) (s : Scene
 
       late_held : wire.held (transaction old.layer.generation (suc i) 0 number) ≡ waits kind serial
       late_held = turns.held_is units ready start past s here i inside serial asked found node_is w purpose l e
-
-      late_said : is_read host serial ≡ true
-      late_said =
-          not_not (is_read host serial)
-          (sym (ap (λ n. ends_other ms n (Some serial)) (turns.from_is units ready start past s here i inside serial asked found node_is w purpose l e)) ∙ none)
 
       abbrev lapsed : Option Purpose → Call
       lapsed x = ended_for x endings.Expired empty_outbox (called (record old { layer = l }))
@@ -314,22 +250,33 @@ module _ (units ready : ℕ) (start : List Disk) (past : List Moment) (s : Scene
           ∙ roms.late_due serial (called (record old { layer = l })) host (present_list ms i) (access_at wire serial) empty_outbox act
           (known.under_rom units ready start past s here i inside rom number purpose late_there kind serial late_held act rom_is)
           (known.awaits_latest units ready start past s here i inside rom number purpose late_there kind serial late_held act rom_is)
-          (apart number purpose late_there kind serial late_held timely (rom_apart purpose act rom_is)) (reads_it number purpose late_there kind serial late_held (rom_quad number purpose late_there kind serial late_held act rom_is)) quads_here)
+          (ways.apart units ready start past s here k i inside number purpose late_there kind serial late_held timely (rom_apart purpose act rom_is))
+          (ways.reads_it units ready start past s here k i inside number purpose late_there kind serial late_held (ways.rom_quad units ready start past s here k i inside number purpose late_there kind serial late_held act rom_is)) quads)
 
       state_lapses : (act : ℕ) (list : Option ℕ) → purpose ≡ Some (purposes.State act list) → IsLate
       unfolding ended_step
-      state_lapses act list state_is =
+      state_lapses act list is =
           turns.lapse_tells units ready start past s here i inside serial asked found node_is w purpose l e (lapsed purpose)
-          (ap (λ x. (lapsed x).0.sides) state_is
-          ∙ state_says number purpose late_there kind serial late_held act list state_is late_said timely l endings.Expired Expired lapses)
+          (ap (λ x. (lapsed x).0.sides) is
+          ∙ ways.state_says units ready start past s here k i inside number purpose late_there kind serial late_held timely act list is l endings.Expired Expired lapses)
 
-      lapse_due : IsLate
-      lapse_due = by (reads_for purpose)
-        where
-          by : roms.ReadsFor purpose → IsLate
-          by (for_rom act f) = rom_lapses act f
-          by (for_state act list f) = state_lapses act list f
-          by (for_other not_rom not_state) = untrue (sym (other_ends number purpose late_there kind serial late_held timely not_rom not_state) ∙ late_said)
+      write_lapses : (its : Purpose) → is_plain its ≡ true → kind_for its ≡ writing → purpose ≡ Some its → IsLate
+      write_lapses its plain writes is =
+          turns.lapse_tells units ready start past s here i inside serial asked found node_is w purpose l e (lapsed purpose)
+          (ap (λ x. (lapsed x).0.sides) is
+          ∙ ways.write_says units ready start past s here k i inside number purpose late_there kind serial late_held timely l endings.Expired its writes is (access_at wire serial)
+          (ways.writes_it units ready start past s here k i inside number purpose late_there kind serial late_held (ways.kind_is units ready start past s here k i inside number purpose late_there kind serial late_held its plain is ∙ writes))
+          (λ f. absurd (let no : Expired ≡ Refused 4 = f in cc)))
+
+      lapse_due : (x : Option Purpose) → purpose ≡ x → IsLate
+      lapse_due (Some (purposes.Rom act)) f = rom_lapses act f
+      lapse_due (Some (purposes.State act list)) f = state_lapses act list f
+      lapse_due (Some (purposes.Pointer list)) f = write_lapses (purposes.Pointer list) refl refl f
+      lapse_due (Some purposes.Doorbell) f = write_lapses purposes.Doorbell refl refl f
+      lapse_due (Some (purposes.AgentReset act)) f = write_lapses (purposes.AgentReset act) refl refl f
+      lapse_due (Some (purposes.Enable act)) f = write_lapses (purposes.Enable act) refl refl f
+      lapse_due (Some (purposes.Management act)) f = write_lapses (purposes.Management act) refl refl f
+      lapse_due None f = absurd (ways.never_nobodys units ready start past s here k i inside number (subst (λ x. At old.layer old.target number x) f late_there))
 
     pub lapses_due : Lapses units ready start past s here i inside serial asked found node_is w
-    lapses_due purpose l e = lapse_due purpose l e
+    lapses_due purpose l e = lapse_due purpose l e purpose refl

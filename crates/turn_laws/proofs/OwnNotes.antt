@@ -1,5 +1,5 @@
 -- The notes of operations, lists and sessions of initiators among those that a call hands out: the target tells none, and of what an initiator tells they are those that are of the kind.
-use Rattle.std.proofs.Common.{[], Bool, List, None, Option, Some, ap, cond, false, nat_lt, refl, true, ℕ, ◌++◌, ◌∙◌, ◌∷◌, ◌≡◌}
+use Rattle.std.proofs.Common.{[], Bool, List, None, Option, Some, ap, cond, false, nat_lt, refl, sym, true, ℕ, ◌++◌, ◌∙◌, ◌∷◌, ◌≡◌}
 use Rattle.std.proofs.lemmas.List.Elements.{filter-append}
 use Rattle.sbp_journal.specs.Outgoings.{OutboxState}
 use Rattle.sbp_journal.specs.declared.note.Note.{Note}
@@ -14,8 +14,10 @@ use Rattle.sbp_world.specs.Hosts.Handing.{AreOthers, IsOther}
 use Rattle.sbp_world.specs.Telling.{told as told_one}
 use Rattle.sbp_world.specs.Worlds.{WorldState}
 use Rattle.turn_laws.proofs.Handed.{handed, note_of, notes_told}
-use Rattle.turn_laws.proofs.KindNotes.{IsToldKind, kind_handed}
+use Rattle.sbp_world.proofs.Common.{untrue}
+use Rattle.turn_laws.proofs.KindNotes.{IsToldKind, kind_handed, none_behind}
 use Rattle.turn_laws.proofs.OwnEnds.{own}
+use Rattle.turn_laws.specs.Operations.{is_ending_note}
 
 pub is_told : IsToldKind is_operation_note
 is_told = record { no_packet = λ serial generation from to bytes. refl }
@@ -106,3 +108,28 @@ pub sight_kept : (i : ℕ) (u : Option Underway) (reads : List StateRead) (prese
 sight_kept i u reads present =
     both (reset_ops i u reads) (drop_note i true present)
     ∙ ap (λ ns. ns ++ Ops (drop_note i true present)) (resets_kept i u reads) ∙ ap (λ ns. reset_ops i u reads ++ ns) (drops_kept i true present)
+
+-- ---- the ends of operations and of lists among them
+abbrev pub Ends : List Note → List Note
+Ends told_notes = of_kind is_ending_note told_notes
+
+ends_kind : (note : Note) → is_operation_note note ≡ false → is_ending_note note ≡ false
+ends_kind (notes.Op i operation word) e = untrue (sym e)
+ends_kind (notes.Drop i n) e = untrue (sym e)
+ends_kind note e = refl
+
+pub ends_of : (ns : List Note) → Ends (Ops ns) ≡ Ends ns
+ends_of [] = refl
+ends_of (note ∷ ns) = by (ends_of ns) (is_operation_note note) refl
+  where
+    by : Ends (Ops ns) ≡ Ends ns → (b : Bool) → is_operation_note note ≡ b → Ends (cond b (note ∷ Ops ns) (Ops ns)) ≡ Ends (note ∷ ns)
+    by more true e = ap (λ xs. cond (is_ending_note note) (note ∷ xs) xs) more
+    by more false e = more ∙ ap (λ b. cond b (note ∷ Ends ns) (Ends ns)) (sym (ends_kind note e))
+
+-- whether a session becomes stuck is none of them
+pub ends_unstuck : (ns : List Note) (i : ℕ) (stuck : Bool) → Ends (ns ++ stuck_note i stuck) ≡ Ends ns
+ends_unstuck ns i stuck = filter-append is_ending_note ns (stuck_note i stuck) ∙ by stuck
+  where
+    by : (b : Bool) → Ends ns ++ Ends (stuck_note i b) ≡ Ends ns
+    by true = none_behind (Ends ns)
+    by false = none_behind (Ends ns)

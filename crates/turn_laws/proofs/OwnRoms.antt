@@ -41,13 +41,13 @@ abbrev pub AreApart : ℕ → List StateRead → Type 0
 AreApart serial [] = Unit {0}
 AreApart serial (read ∷ reads) = (read.serial == serial) ≡ false × AreApart serial reads
 
-none_reads : (reads : List StateRead) (serial : ℕ) (answer : Answer) (present : Option ℕ) → AreApart serial reads → read_ends reads serial answer present ≡ None
+pub none_reads : (reads : List StateRead) (serial : ℕ) (answer : Answer) (present : Option ℕ) → AreApart serial reads → read_ends reads serial answer present ≡ None
 none_reads [] serial answer present a = refl
 none_reads (read ∷ reads) serial answer present a =
     ap (λ b. cond b (ends_as operations.State (state_word answer) (says_reset answer && is_present read.list present)) (read_ends reads serial answer present)) a.0
     ∙ none_reads reads serial answer present a.1
 
-or_none : (end : Option End) → or_end end None ≡ end
+pub or_none : (end : Option End) → or_end end None ≡ end
 or_none None = refl
 or_none (Some end) = refl
 
@@ -57,22 +57,6 @@ fault_same rom_faults.Name = refl
 fault_same (rom_faults.Entry at) = refl
 fault_same (rom_faults.Outside at) = refl
 fault_same rom_faults.NoMemory = refl
-
--- what a transaction is for: a ROM, the state of the agent, or neither
-pub data ReadsFor (purpose : Option Purpose) : Type 0 where
-  for_rom : (act : ℕ) → purpose ≡ Some (purposes.Rom act) → ReadsFor purpose
-  for_state : (act : ℕ) (list : Option ℕ) → purpose ≡ Some (purposes.State act list) → ReadsFor purpose
-  for_other : ((act : ℕ) → purpose ≡ Some (purposes.Rom act) → ⊥) → ((act : ℕ) (list : Option ℕ) → purpose ≡ Some (purposes.State act list) → ⊥) → ReadsFor purpose
-
-pub reads_for : (purpose : Option Purpose) → ReadsFor purpose
-reads_for None = for_other (λ act g. (let no : None ≡ Some (purposes.Rom act) = g in cc)) (λ act list g. (let no : None ≡ Some (purposes.State act list) = g in cc))
-reads_for (Some (purposes.Rom act)) = for_rom act refl
-reads_for (Some (purposes.State act list)) = for_state act list refl
-reads_for (Some (purposes.Pointer of)) = for_other (λ act g. (let no : Some (purposes.Pointer of) ≡ Some (purposes.Rom act) = g in cc)) (λ act list g. (let no : Some (purposes.Pointer of) ≡ Some (purposes.State act list) = g in cc))
-reads_for (Some purposes.Doorbell) = for_other (λ act g. (let no : Some purposes.Doorbell ≡ Some (purposes.Rom act) = g in cc)) (λ act list g. (let no : Some purposes.Doorbell ≡ Some (purposes.State act list) = g in cc))
-reads_for (Some (purposes.AgentReset n)) = for_other (λ act g. (let no : Some (purposes.AgentReset n) ≡ Some (purposes.Rom act) = g in cc)) (λ act list g. (let no : Some (purposes.AgentReset n) ≡ Some (purposes.State act list) = g in cc))
-reads_for (Some (purposes.Enable n)) = for_other (λ act g. (let no : Some (purposes.Enable n) ≡ Some (purposes.Rom act) = g in cc)) (λ act list g. (let no : Some (purposes.Enable n) ≡ Some (purposes.State act list) = g in cc))
-reads_for (Some (purposes.Management n)) = for_other (λ act g. (let no : Some (purposes.Management n) ≡ Some (purposes.Rom act) = g in cc)) (λ act list g. (let no : Some (purposes.Management n) ≡ Some (purposes.State act list) = g in cc))
 
 module _ (serial : ℕ) (host : Host) where
   -- the latest read of the operation under way, which is a ROM

@@ -70,9 +70,10 @@ use Rattle.turn_laws.proofs.FoundRows.{Asks, RowFor}
 use Rattle.turn_laws.proofs.Handed.{handed}
 use Rattle.turn_laws.proofs.OwnBlocks.{Expected, answer_silent, request_tells}
 use Rattle.turn_laws.proofs.OwnEnds.{Says}
-use Rattle.turn_laws.proofs.OwnNotes.{Ops, own_are, reply_kept, sight_kept}
+use Rattle.turn_laws.proofs.OwnNotes.{Ends, Ops, ends_of, ends_unstuck, own_are, reply_kept, sight_kept}
 use Rattle.turn_laws.proofs.OwnStates.{AreReset, sight_due}
-use Rattle.turn_laws.specs.Operations.{ends_own}
+use Rattle.turn_laws.specs.Operations.{gets_conflict}
+use Rattle.sbp_world.specs.Lists.FewLogins.{IsCalmBeside}
 use Rattle.turn_laws.proofs.Places.{HasCalls, Place}
 use Rattle.turn_laws.proofs.ReadsCarried.{resets_of}
 use Rattle.turn_laws.proofs.ReadsUnderWay.{AreTimely, Waiting, waits_now}
@@ -87,7 +88,7 @@ drops_present lists = by lists.slots.present
     by (Some list) = refl
 
 -- by whom it was sent
-sender_is : (packet : Sending) (u : Transaction) (label : ℕ) (kind : Kind) → part_of packet.bytes ≡ request_part label kind → begun_by packet ≡ Some u → packet.from ≡ u.requester
+pub sender_is : (packet : Sending) (u : Transaction) (label : ℕ) (kind : Kind) → part_of packet.bytes ≡ request_part label kind → begun_by packet ≡ Some u → packet.from ≡ u.requester
 unfolding asked_by
 sender_is packet u label kind part begun =
     let asked : asked_as (part_of packet.bytes) packet ≡ Some u = (begun_asked packet u begun).1 in
@@ -212,37 +213,53 @@ module _ (units ready : ℕ) (start : List Disk) (past : List Moment) (s : Scene
           own_are (suc i) 0 t.0 w (reply_notes old.number host present (access_at wire own) own (answer_of p)) says
           ∙ reply_kept old.number (end_by_answer host own (answer_of p) present) present (gets_stuck host (access_at wire own) (answer_of p)) ∙ sym response_law
 
+      -- and where it tells what would be due for another write, the ends are
+      pub answer_ends : (t : Call) (access : Option Access) → Says empty_outbox t (reply_notes old.number host present access own (answer_of p)) → Ends (handed (suc i) 0 t.0 w) ≡ Ends (host_notes (said (notes.Got serial)) ms)
+      answer_ends t access says =
+          let end = end_notes old.number (end_by_answer host own (answer_of p) present) present in
+          sym (ends_of (handed (suc i) 0 t.0 w)) ∙ ap Ends (own_are (suc i) 0 t.0 w (reply_notes old.number host present access own (answer_of p)) says) ∙ ends_of (reply_notes old.number host present access own (answer_of p))
+          ∙ ends_unstuck end old.number (gets_stuck host access (answer_of p)) ∙ sym (ends_unstuck end old.number (gets_stuck host (access_at wire own) (answer_of p))) ∙ ap Ends (sym response_law)
+
+    -- the ends of operations and lists alone
+    abbrev pub AreEnds : Judged × Call → Type 0
+    AreEnds r = Ends (handed (suc i) 0 r.1.0 w) ≡ Ends (host_notes (said (judged_note serial r.0)) ms)
+
+    pub due_ends : (r : Judged × Call) → IsDue r → AreEnds r
+    due_ends r e = sym (ends_of (handed (suc i) 0 r.1.0 w)) ∙ ap Ends e
+
     abbrev Judgement : Judged × Call → Type 0
     Judgement r = AreJudged (said (judged_note serial r.0) ∷ ms)
 
-    -- what a response brings is due
-    abbrev pub Responds : Type 0
-    Responds =
-        (p : Packet) (label : LabelParts) (purpose : Option Purpose) (l : Layer Purpose) → judging_step old.layer one.generation one.bytes ≡ (of_response p label purpose, l)
-        → AreJudged (said (notes.Got serial) ∷ ms) → IsDue (received (of_response p label purpose, l) one.bytes empty_outbox old)
+    -- what is due holds of what each packet brings, where it does of responses
+    module _ (Holds : Judged × Call → Type 0) (due : (r : Judged × Call) → IsDue r → Holds r) where
+      abbrev pub RespondsSo : Type 0
+      RespondsSo =
+          (p : Packet) (label : LabelParts) (purpose : Option Purpose) (l : Layer Purpose) → judging_step old.layer one.generation one.bytes ≡ (of_response p label purpose, l)
+          → AreJudged (said (notes.Got serial) ∷ ms) → Holds (received (of_response p label purpose, l) one.bytes empty_outbox old)
 
-    -- what a packet brings that is found so is due
-    abbrev Brings : Finding Purpose × Layer Purpose → Type 0
-    Brings x = judging_step old.layer one.generation one.bytes ≡ x → RowFor wire q old.layer.node x → Judgement (received x one.bytes empty_outbox old) → IsDue (received x one.bytes empty_outbox old)
+      -- what a packet brings that is found so
+      abbrev Brings : Finding Purpose × Layer Purpose → Type 0
+      Brings x = judging_step old.layer one.generation one.bytes ≡ x → RowFor wire q old.layer.node x → Judgement (received x one.bytes empty_outbox old) → Holds (received x one.bytes empty_outbox old)
 
-    heard_by : AreBuffers host.responses old.lists.memory → Responds → (x : Finding Purpose × Layer Purpose) → Brings x
-    heard_by buffers responds (of_generation, l) e row j = silent empty_outbox refl
-    heard_by buffers responds (of_grammar, l) e row j = silent empty_outbox refl
-    heard_by buffers responds (of_label, l) e row j = silent empty_outbox refl
-    heard_by buffers responds (of_response p label purpose, l) e row j = responds p label purpose l e j
-    heard_by buffers responds (of_again p rcode, l) e row j =
-        let turn : Call = (empty_outbox, record old { layer = l }) in silent (respond_step p one.bytes rcode [] turn).0 (answer_silent p one.bytes rcode [] turn)
-    heard_by buffers responds (of_request p, l) e row j = request_due buffers p row l
+      heard_by : AreBuffers host.responses old.lists.memory → RespondsSo → (x : Finding Purpose × Layer Purpose) → Brings x
+      heard_by buffers responds (of_generation, l) e row j = due (received (of_generation, l) one.bytes empty_outbox old) (silent empty_outbox refl)
+      heard_by buffers responds (of_grammar, l) e row j = due (received (of_grammar, l) one.bytes empty_outbox old) (silent empty_outbox refl)
+      heard_by buffers responds (of_label, l) e row j = due (received (of_label, l) one.bytes empty_outbox old) (silent empty_outbox refl)
+      heard_by buffers responds (of_response p label purpose, l) e row j = responds p label purpose l e j
+      heard_by buffers responds (of_again p rcode, l) e row j =
+          let turn : Call = (empty_outbox, record old { layer = l }) in
+          due (received (of_again p rcode, l) one.bytes empty_outbox old) (silent (respond_step p one.bytes rcode [] turn).0 (answer_silent p one.bytes rcode [] turn))
+      heard_by buffers responds (of_request p, l) e row j = due (received (of_request p, l) one.bytes empty_outbox old) (request_due buffers p row l)
 
-    -- where no other request of it ends than the latest read of a ROM
-    abbrev EndsNone : Judged → Type 0
-    EndsNone judged = ends_own (said (judged_note serial judged)) ms ≡ false
+      pub got_by : (Calm : Judged → Type 0) → AreBuffers host.responses old.lists.memory → (Calm judgements.Got → RespondsSo) → Calm heard.0 → Judgement heard → RowFor wire q old.layer.node (judging_step old.layer one.generation one.bytes) → Holds heard
+      unfolding receive_step
+      got_by Calm buffers responds calm judged row =
+          heard_by buffers (λ p label purpose l e j. responds (subst (λ (y : Finding Purpose × Layer Purpose). Calm (received y one.bytes empty_outbox old).0) e calm) p label purpose l e j)
+          (judging_step old.layer one.generation one.bytes) refl row judged
 
-    pub got_due : AreBuffers host.responses old.lists.memory → (EndsNone judgements.Got → Responds) → EndsNone heard.0 → Judgement heard → RowFor wire q old.layer.node (judging_step old.layer one.generation one.bytes) → IsDue heard
-    unfolding receive_step
-    got_due buffers responds none judged row =
-        heard_by buffers (λ p label purpose l e j. responds (subst (λ (y : Finding Purpose × Layer Purpose). EndsNone (received y one.bytes empty_outbox old).0) e none) p label purpose l e j)
-        (judging_step old.layer one.generation one.bytes) refl row judged
+    -- who gets conflict_error so injected no packets
+    abbrev pub IsCalmWhere : Judged → Type 0
+    IsCalmWhere judged = (j : ℕ) → gets_conflict (said (judged_note serial judged)) ms j ≡ true → IsCalmBeside ms j
 
   -- ---- a sight
   inside_there : suc i ≤ length s.world.initiators

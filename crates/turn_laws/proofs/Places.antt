@@ -1,6 +1,6 @@
 -- The places of a run between two turns, and what is known at each: as some of its lines ended, as a line begins, and between two deliveries of a line. At each the terms of
 -- the history are the states of both ends.
-use Rattle.std.proofs.Common.{arith, ◌≡◌, ◌∙◌, sym, subst, ℕ, ◌+◌, ◌^◌, ◌<◌, ◌≤◌, Bool, false, List, [], ◌∷◌, ◌++◌, map, length, Option, None}
+use Rattle.std.proofs.Common.{arith, ◌≡◌, ◌∙◌, ap, refl, sym, subst, ℕ, ◌+◌, ◌^◌, ◌<◌, ◌≤◌, Bool, false, List, [], ◌∷◌, ◌++◌, map, length, Option, None}
 use Rattle.bus_transactions.specs.May.{is_reset}
 use Rattle.rbc_disk.specs.Disk.{Disk}
 use Rattle.rbc_disk.specs.Runs.{Told}
@@ -49,16 +49,24 @@ use Rattle.sbp_world.proofs.Hosts.MemoryReads.{memory_law, memory_read}
 use Rattle.sbp_world.proofs.Hosts.OrbRuns.{Orbs, orbs_between, orbs_of_runs}
 use Rattle.sbp_world.proofs.Hosts.Runs.{count_after, count_between, run_law, are_told}
 use Rattle.sbp_world.proofs.Hosts.StepLaws.{step_law}
-use Rattle.sbp_world.proofs.Lists.Beside.{beside_before}
+use Rattle.sbp_laws.specs.Turns.{EachMoment}
+use Rattle.sbp_world.proofs.Lists.Beside.{beside_before, done_based}
 use Rattle.sbp_world.proofs.Lists.Clauses.{open_lists_law}
 use Rattle.sbp_world.proofs.Lists.ContentAsked.{contents_law}
 use Rattle.sbp_world.proofs.Lists.Courses.{more_than_one}
 use Rattle.sbp_world.proofs.Lists.DataHeard.{AreOwnFor}
 use Rattle.sbp_world.proofs.Lists.DataLaws.{dry_by}
+use Rattle.sbp_world.proofs.Lists.LiveLogins.{logins_known}
+use Rattle.sbp_world.proofs.Lists.RomHeld.{rom_law}
+use Rattle.sbp_world.proofs.Pointers.Ages.{moment_sent}
+use Rattle.sbp_world.specs.Lists.Placings.{BasedAt}
+use Rattle.sbp_world.specs.Lists.Roms.{AreManaged}
+use Rattle.turn_laws.proofs.RegisterWrites.{RegistersAt, registers_after, registers_between}
 use Rattle.sbp_world.proofs.Lists.ListsProved.{closing}
 use Rattle.sbp_world.proofs.Lists.OpenProved.{taken_lists_law}
 use Rattle.sbp_world.proofs.Lists.JoinLaws.{moments_same, lines_same}
 use Rattle.sbp_world.proofs.Lists.ShortLines.{short_law}
+use Rattle.turn_laws.proofs.AnswerPlaces.{AreToBuffers, buffers_after, buffers_begun, buffers_between}
 use Rattle.turn_laws.proofs.OperationAsked.{asked_opens}
 use Rattle.turn_laws.proofs.ReadsCarried.{Paired, asked_paired, paired_between, paired_of_runs}
 use Rattle.sbp_world.proofs.Sessions.HoldingRuns.{holding_law}
@@ -108,6 +116,12 @@ pub record Place (units ready : ℕ) (start : List Disk) (past : List Moment) (s
   pub placed : (i : ℕ) → i < length s.world.initiators → ArePlaces (hist past s.world) i (initiator_at s.world i)
   -- the FIFOs of its live logins, where it injected no packets
   pub owned : (i : ℕ) → i < length s.world.initiators → IsCalmBeside (hist past s.world) i → AreOwnFor s.world i
+  -- where it wrote, and, where it injected no packets, that each login that it was done with was granted an agent of a place
+  pub managed : (i : ℕ) → i < length s.world.initiators → AreManaged (hist past s.world) s.world i
+  pub registers : (i : ℕ) → i < length s.world.initiators → EachMoment (RegistersAt i) (hist past s.world)
+  pub based : (i : ℕ) → i < length s.world.initiators → IsCalmBeside (hist past s.world) i → EachMoment (BasedAt i) (hist past s.world)
+  -- where its answers are written, where it injected none
+  pub answers : AreToBuffers start (hist past s.world) s.world
 
 -- an initiator uses one login number at most for each of its actions, and so one for each line
 few_logins : (ready : Bool) (past : List Moment) (i lines : ℕ) (s : InitiatorState) → Orbs ready past i s → s.counts.acts ≤ lines → lines + 1 ≤ 2 ^ 32 → s.counts.logins ≤ 2 ^ 32
@@ -176,6 +190,13 @@ module _ (line : ℕ) (run : Run) (few : run.initiators ≤ 4) (has : 0 < run.un
       owned = λ i b c.
           let d = subst (λ ms. IsCalmBeside ms i) (sym same) c in
           ((dry_by short_law).after_lines line front is_run has small size (closing.before open_lists_law line front is_run has small size d.1) d.1 i b d.0).0;
+      managed = λ i b. subst (λ ms. AreManaged ms here.world i) same (rom_law.after_lines line front is_run has small size i (inside i b));
+      registers = λ i b. subst (EachMoment (RegistersAt i)) same (registers_after line front is_run i (inside i b));
+      based = λ i b c.
+          let d = subst (λ ms. IsCalmBeside ms i) (sym same) c in
+          subst (EachMoment (BasedAt i)) same
+          (done_based start (length here.world.initiators) (history_of line front) i b ((logins_known short_law).after_lines line front is_run has small size (closing.before open_lists_law line front is_run has small size d.1) i b d));
+      answers = subst (λ ms. AreToBuffers start ms here.world) same (buffers_after line front is_run has small size);
     }
 
     -- between deliveries of a line that follows
@@ -232,6 +253,11 @@ module _ (line : ℕ) (run : Run) (few : run.initiators ≤ 4) (has : 0 < run.un
               placed = λ i b. moved (λ ms. ArePlaces ms i (initiator_at w i)) (placed_law.between line front is_run next most told m i (inside_there i b));
               owned = λ i b. moved (λ ms. IsCalmBeside ms i → AreOwnFor w i) (λ c.
                   ((dry_by short_law).between line front is_run has small size next most told m (closing.between open_lists_law line front is_run has small size next (more_deliveries most) d told m c.1) c.1 i b c.0).0);
+              managed = λ i b. moved (λ ms. AreManaged ms w i) (rom_law.between line front is_run has small size next most told m i (inside_there i b));
+              registers = λ i b. moved (EachMoment (RegistersAt i)) (registers_between line front is_run next most told m i (inside_there i b));
+              based = λ i b. moved (λ ms. IsCalmBeside ms i → EachMoment (BasedAt i) ms) (λ c.
+                  done_based start (length w.initiators) _ i b ((logins_known short_law).between line front is_run has small size next most told m (closing.between open_lists_law line front is_run has small size next (more_deliveries most) d told m c.1) i b c));
+              answers = moved (λ ms. AreToBuffers start ms w) (buffers_between line front is_run has small size next most told m);
             }
 
     -- as a line begins in which a node is called
@@ -268,4 +294,10 @@ module _ (line : ℕ) (run : Run) (few : run.initiators ≤ 4) (has : 0 < run.un
             memory = λ i b. subst (λ ms. IsReadBy (asked next event ∷ ms) i (initiator_at here.world i)) same (begun_memory i (inside i b));
             placed = λ i b. are_places (asked next event ∷ hist past here.world) i (initiator_at here.world i) (λ place c. (p.placed i b).holds place c);
             owned = λ i b c. (let own = p.owned i b (beside_before (asked next event ∷ []) (hist past here.world) i c) in λ place login e live to. own place login e live to);
+            managed = λ i b.
+                let m = p.managed i b in
+                record { known = m.known; writes = λ serial packet action access sent. m.writes serial packet action access (sym (ap (λ f. f serial) (moment_sent (asked next event) (hist past here.world) refl)) ∙ sent) };
+            registers = λ i b. (tt, p.registers i b);
+            based = λ i b c. (tt, p.based i b (beside_before (asked next event ∷ []) (hist past here.world) i c));
+            answers = buffers_begun start (hist past here.world) next event here.world p.answers;
           }

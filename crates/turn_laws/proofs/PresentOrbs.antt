@@ -85,7 +85,7 @@ ahead_present None (At next) s = refl
 ahead_present None Null s = refl
 ahead_present (Some cause) next s = refl
 
-served_present : (place : ℕ) (plain : PlainDisk) (told : Told) (r : Move × Machine) → present (served place plain told r.0 r.1) ≡ r.1.present
+pub served_present : (place : ℕ) (plain : PlainDisk) (told : Told) (r : Move × Machine) → present (served place plain told r.0 r.1) ≡ r.1.present
 served_present place plain told (moves.Send step, m) = refl
 served_present place plain told (moves.Check, m) = let s = check_step m place plain told in ahead_present s.0.dead s.1.orb.next s ∙ checked_present m place plain told (verdict m.orb m.aborted)
 served_present place plain told (moves.Judge, m) = judge_present m place plain told

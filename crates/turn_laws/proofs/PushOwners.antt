@@ -277,14 +277,23 @@ owned_not t s none (of_manager e f) g =
     let is : is_serial (over t).manages s ≡ true = ap (λ o. is_serial o s) same ∙ (let z : nat_eq s s ≡ true = grind (arith, nat_tests) in z) in
     manager_not (sym (ap (λ b. cond b for_manager (purpose_among 0 (over t).agents s)) is) ∙ g)
 
+-- a write of these is an unsolicited status, or somebody's, and no reply waits
+pub pushed_or_owned : (start : List Disk) (ms : List Moment) → SerialsCount ms → (s : ℕ) → before_packets ms < s → s ≤ (terms ms).count → IsWrite ((terms ms).sent s)
+    → Has (Pushes start ms) s ⊎ (((target_at start ms).reply ≡ None) × IsOwned (target_at start ms) s)
+pushed_or_owned start ms c s l m x = by (last_packet ms) (owned start ms c s l m x)
+  where
+    by : IsPacket ms ⊎ (before_packets ms ≡ (terms ms).count) → Owner start ms s → Has (Pushes start ms) s ⊎ (((target_at start ms).reply ≡ None) × IsOwned (target_at start ms) s)
+    by p (inl h) = inl h
+    by (inl p) (inr o) = inr (reply_none start ms p, o)
+    by (inr f) (inr o) = absurd (omega (arith, l, m, f))
+
 -- a write of these that is nobody's is an unsolicited status
 pub nobodys_pushed : (start : List Disk) (ms : List Moment) → SerialsCount ms → (s : ℕ) → before_packets ms < s → s ≤ (terms ms).count → IsWrite ((terms ms).sent s) → purpose_of (over (target_at start ms)) s ≡ for_nobody → Has (Pushes start ms) s
-nobodys_pushed start ms c s l m x e = by (last_packet ms) (owned start ms c s l m x)
+nobodys_pushed start ms c s l m x e = by (pushed_or_owned start ms c s l m x)
   where
-    by : IsPacket ms ⊎ (before_packets ms ≡ (terms ms).count) → Owner start ms s → Has (Pushes start ms) s
-    by p (inl h) = h
-    by (inl p) (inr o) = absurd (owned_not (target_at start ms) s (reply_none start ms p) o e)
-    by (inr f) (inr o) = absurd (omega (arith, l, m, f))
+    by : Has (Pushes start ms) s ⊎ (((target_at start ms).reply ≡ None) × IsOwned (target_at start ms) s) → Has (Pushes start ms) s
+    by (inl h) = h
+    by (inr o) = absurd (owned_not (target_at start ms) s o.0 o.1 e)
 
 -- ---- the kind of a request that writes
 part_writes : (p : Packet) (label : ℕ) → part_in p ≡ request label writing → is_write_access (access_in (Some p)) ≡ true

@@ -6,6 +6,7 @@ use Rattle.std.proofs.lemmas.Option.{same_Some}
 use Rattle.async_packet.specs.Labels.{LabelParts}
 use Rattle.bus_transactions.specs.Wire.{transaction}
 use Rattle.bus_transactions.proofs.Facts.{asked_begun, request_asked}
+use Rattle.label_table.specs.Bodies.{header_to, request_with}
 use Rattle.label_table.specs.Layer.{Finding, Layer, expiring_step, judging_step, of_again, of_generation, of_grammar, of_label, of_request, of_response, seeing_step}
 use Rattle.label_table.specs.declared.judgement.Asked.{Asked}
 use Rattle.label_table.specs.declared.reply.Stale.{Stale}
@@ -47,7 +48,8 @@ use Rattle.sbp_journal.specs.declared.side.Side.{Side}
 use Rattle.sbp_journal.specs.declared.side.Side.TheVariants as sides
 use Rattle.sbp_laws.specs.Hosts.{Host, StateRead, Underway, acted, host_at, is_serial, new_host, operation_of, ready_host, reset_seen, told_of}
 use Rattle.sbp_laws.specs.Lists.{present_list}
-use Rattle.sbp_laws.specs.Packets.{sender_in}
+use Rattle.sbp_laws.specs.Packets.{access_in_bytes, sender_in}
+use Rattle.sbp_journal.specs.Addresses.{Access, access_of}
 use Rattle.sbp_laws.specs.Turns.{event_of}
 use Rattle.sbp_world.proofs.Common.{least, none_is, some_none, untrue}
 use Rattle.sbp_world.proofs.Hosts.ActLeft.{ActLeft, HasAsked, act_left}
@@ -56,11 +58,13 @@ use Rattle.sbp_world.proofs.Hosts.Calling.{called_on}
 use Rattle.sbp_world.proofs.Hosts.Carried.{between_runs, of_runs}
 use Rattle.sbp_world.proofs.Hosts.Carries.{Carries, Does, IsLineOf, IsNoAct, Tells, is_apart}
 use Rattle.sbp_world.proofs.Hosts.Cores.{not_so}
-use Rattle.sbp_world.proofs.Hosts.Held.{ignored_quiet, sent_begun, sent_count}
+use Rattle.sbp_world.proofs.Hosts.Held.{ignored_quiet, sent_begun, sent_count, sent_new}
+use Rattle.sbp_world.proofs.Hosts.Remaining.{step}
+use Rattle.sbp_world.specs.Pointers.Moments.{asked_in, own_action}
 use Rattle.sbp_world.proofs.Hosts.Hosted.{Cored, expires_fit, hears_fit, marks_of}
 use Rattle.sbp_world.proofs.Hosts.KnowActs.{no_packets}
 use Rattle.sbp_world.proofs.Hosts.Layered.{AreTame, Left, expire_left, receive_left}
-use Rattle.sbp_world.proofs.Hosts.Lives.{At, Called, ask_begins, ask_keeps, at_life, expire_at, judge_at}
+use Rattle.sbp_world.proofs.Hosts.Lives.{At, AskedAt, Called, ask_at, ask_begins, ask_keeps, asked_now, at_life, expire_at, judge_at, was_asked}
 use Rattle.sbp_world.proofs.Hosts.Pointed.{expired_called, expiring_stays, judged_called, judged_fit, stale_is}
 use Rattle.sbp_world.proofs.Hosts.PointerNotes.{Fit, Told, apart_passes, opens, tame_told}
 use Rattle.sbp_world.proofs.Hosts.Pointing.{asked_generation, called_of, sent_waits, wrote_is}
@@ -69,7 +73,7 @@ use Rattle.sbp_world.proofs.Lists.ManageActs.{act_operation, new_by, same_operat
 use Rattle.sbp_world.proofs.Lists.ManageFirsts.{Goes, begun_first, goes_then, kept_first, line_first, note_first, other_first, sent_first, told_first}
 use Rattle.sbp_world.proofs.Lists.ManageHears.{hears_left, lapses_left}
 use Rattle.sbp_world.proofs.Lists.ManageLeaves as leaves
-use Rattle.sbp_world.proofs.Pointers.Asks.{act_allowed}
+use Rattle.sbp_world.proofs.Pointers.Asks.{act_allowed, act_bytes}
 use Rattle.sbp_world.proofs.Pointers.GuardActs.{none_underway}
 use Rattle.sbp_world.proofs.Pointers.GuardDoes.{Ready}
 use Rattle.sbp_world.proofs.Pointers.Guarded.{Guarded}
@@ -77,7 +81,7 @@ use Rattle.sbp_world.proofs.Pointers.Guarding.{first_guarded, guarded_carried, r
 use Rattle.sbp_world.proofs.Pointers.Resetting.{asked_host}
 use Rattle.sbp_world.proofs.Hosts.PointSees.{see_left}
 use Rattle.sbp_world.proofs.Pointers.WaitActs.{none_seen, see_old}
-use Rattle.sbp_world.proofs.Pointers.Waits.{judged_count, judged_ends, timed_count, timed_ends}
+use Rattle.sbp_world.proofs.Pointers.Waits.{asked_sent, asked_told, judged_count, judged_ends, timed_count, timed_ends}
 use Rattle.sbp_world.proofs.Lists.LiveTurns.{flag_is}
 use Rattle.sbp_world.proofs.Wire.Deliver.{judging_stays}
 use Rattle.sbp_world.specs.Histories.{history_of}
@@ -110,7 +114,10 @@ use Rattle.sbp_world.specs.Hosts.Rows.{present_in}
 use Rattle.sbp_world.specs.Hosts.Worlds.{IsHost}
 use Rattle.turn_laws.proofs.HostMarks.{Marks, acted_marks, apart_marks, marks, marks_at, marks_in, own_marks, seen_marks, sent_marks}
 use Rattle.turn_laws.proofs.MarksKept.{IsLive, acted_live, acted_marked, acted_others, acted_sides, acted_unanswered, heard_live, heard_marked, heard_others, late_live, late_marked, late_others, seen_marked, seen_others}
+use Rattle.turn_laws.proofs.ManagerKnown.{Knows, acted_knows, heard_knows, late_knows}
+use Rattle.turn_laws.proofs.RequestFirsts.{AreTied, IsNull, Tied, asks_known, asks_makes, asks_none, asks_own, earlier_not, ended_tied, is_managing, is_of, knows_on, moment_on, reads_now, tied_on, told_on}
 use Rattle.turn_laws.proofs.RequestKinds.{Kinds, asking_kinds, ended_kinds, generation_is, still_kinds}
+use Rattle.turn_laws.proofs.RomEnds.{is_plain}
 
 -- ---- what is carried on
 pub record Paired (ready : Bool) (past : List Moment) (i : ℕ) (s : InitiatorState) : Type 0 where
@@ -120,6 +127,8 @@ pub record Paired (ready : Bool) (past : List Moment) (i : ℕ) (s : InitiatorSt
   -- its lists and slots by the terms, and the kind of what each request awaits
   pub host : IsHost past i s
   pub kinds : Fit past → Kinds past i s.target s.layer
+  -- which requests are those of its operation
+  pub tied : Fit past → AreTied past i s
   -- and what it knows of its present list: where that is marked dead there is one
   pub live : IsLive s
   pub marked : Fit past → AreTimely past → marks_at past i ≡ own_marks s
@@ -164,6 +173,7 @@ told_paired ready told past j x tame g host same h =
       first = λ f. first_on past (behind told past) j x goes count (h.first (k.fit f));
       host = host;
       kinds = λ f. still_kinds past (behind told past) j x.target x.layer (λ n k' o e. ap (λ (t : Terms). t.held (transaction x.layer.generation (suc j) 0 n)) k.wire ∙ e) (h.kinds (k.fit f));
+      tied = λ f. tied_on past (behind told past) j x (told_on told past j tame) (λ n k' o e. ap (λ (t : Terms). t.held (transaction x.layer.generation (suc j) 0 n)) k.wire ∙ e) (h.tied (k.fit f));
       live = h.live;
       marked = λ f m. same ∙ h.marked (k.fit f) (told_timely told past tame m);
     }
@@ -183,6 +193,9 @@ asked_paired ready line event past i s h =
       kinds = λ f.
           still_kinds past (asked line event ∷ past) i s.target s.layer (λ n k o' e. ap (λ (x : Transaction → Held). x (transaction s.layer.generation (suc i) 0 n)) o.held ∙ e)
           (h.kinds (record { serials = f.serials; sent = f.sent }));
+      tied = λ f.
+          tied_on past (asked line event ∷ past) i s (moment_on (asked line event) past i f.serials goes) (λ n k o' e. ap (λ (x : Transaction → Held). x (transaction s.layer.generation (suc i) 0 n)) o.held ∙ e)
+          (h.tied (record { serials = f.serials; sent = f.sent }));
       live = h.live;
       marked = λ f m. h.marked (record { serials = f.serials; sent = f.sent }) m.1;
     }
@@ -203,6 +216,7 @@ apart_paired ready note past i s e w h =
       first = λ f. first_on past (said note ∷ past) i s goes passes.count (h.first (passes.fit f));
       host = host_apart note past i s e h.host;
       kinds = λ f. still_kinds past (said note ∷ past) i s.target s.layer (λ n k o x. passes.held s.layer.generation n ∙ x) (h.kinds (passes.fit f));
+      tied = λ f. tied_on past (said note ∷ past) i s (moment_on (said note) past i f.serials goes) (λ n k o x. passes.held s.layer.generation n ∙ x) (h.tied (passes.fit f));
       live = h.live;
       marked = λ f m. apart_marks note past i e w ∙ h.marked (passes.fit f) m.1;
     }
@@ -225,6 +239,9 @@ sent_paired ready serial generation from to bytes past i s n h =
       kinds = λ f.
           still_kinds past now i s.target s.layer (λ x k o e. sent_waits t serial packet f.sent.0 (transaction s.layer.generation (suc i) 0 x) k o e)
           (h.kinds (record { serials = f.serials.1; sent = f.sent.1 }));
+      tied = λ f.
+          tied_on past now i s (moment_on (said (notes.Sent serial generation from to bytes)) past i f.serials goes) (λ x k o e. sent_waits t serial packet f.sent.0 (transaction s.layer.generation (suc i) 0 x) k o e)
+          (h.tied (record { serials = f.serials.1; sent = f.sent.1 }));
       live = h.live;
       marked = λ f m. sent_marks serial generation from to bytes past i n ∙ h.marked (record { serials = f.serials.1; sent = f.sent.1 }) m.1;
     }
@@ -312,7 +329,7 @@ module _ (ready : Bool) (serial generation : ℕ) (bytes : List ℕ) (past : Lis
       after_it (judging_stays s.layer generation bytes) (judged_called ready s.layer generation bytes called) heard_left
       (stays_by f judged) (ends_by_judged f judged) (λ n q a. judge_at s.layer generation bytes s.target n q called a) on_by
       (goes_by judged) (judged_count serial judged past) (stays_or_ends s _ t.1 (hears_left s generation bytes (hears_fit ready i s own_heard generation bytes)))
-      (λ n act list a. lives_of ready i t.1 (called_on ready i s (receives generation bytes) tt own_heard) t.1.target n act list a)
+      (λ n act list a. lives_of ready i t.1 (called_on ready i s (receives generation bytes) tt own_heard) t.1.target n (Some (purposes.State act list)) a act list refl)
       (states_step ready i s own_heard (receives generation bytes) tt ∙ ap (λ (x : InitiatorState). finding_reads (judging_step x.layer generation bytes).0 s.states) own_heard.is
       ∙ finding_left finding s.states)
       (reads_by_judged judged)
@@ -334,6 +351,20 @@ module _ (ready : Bool) (serial generation : ℕ) (bytes : List ℕ) (past : Lis
               (ended_kinds past (judged_note serial judged) i s.target s.layer (judging_step s.layer generation bytes).1 (judged_ends serial judged past) (h.kinds (fit_before f))
               (judged_called ready s.layer generation bytes called) (judging_stays s.layer generation bytes) (λ n q a. judge_at s.layer generation bytes s.target n q called a) after_it t.0.sides left.told
               t.1.layer left.layer);
+          tied = λ f.
+              ended_tied past (judged_note serial judged) i s (judging_step s.layer generation bytes).1 t
+              (record {
+                ends = judged_ends serial judged past;
+                called = judged_called ready s.layer generation bytes called;
+                generation = judging_stays s.layer generation bytes;
+                back = λ n q a. judge_at s.layer generation bytes s.target n q called a;
+                shown = after_it;
+                left = left;
+                operation = stays_or_ends s _ t.1 (hears_left s generation bytes (hears_fit ready i s own_heard generation bytes));
+                knows = heard_knows generation bytes s;
+                first = moment_on (said (judged_note serial judged)) past i ((tame_told t.0.sides heard_now i left.told).fit f).serials goes;
+              })
+              (h.tied (fit_before f));
           live = heard_live past i s h.host ready own_heard h.live serial generation bytes hosts.own;
           marked = λ f m.
               let before = told_timely t.0.sides heard_now left.told m in
@@ -397,7 +428,7 @@ module _ (ready : Bool) (serial : ℕ) (label : LabelParts) (past : List Moment)
               (λ n k o e g k' o' w. late_off past f_now.serials serial timely.0 s.layer.generation i n k o e g k' o' w)
               (λ n q a. expire_at s.layer s.target label s.target n q layer_called a) on_late
               goes count (stays_or_ends s _ late_turn.1 (lapses_left s label (expires_fit ready i s own_calls label)))
-              (λ n act list a. lives_of ready i late_turn.1 then_called late_turn.1.target n act list a)
+              (λ n act list a. lives_of ready i late_turn.1 then_called late_turn.1.target n (Some (purposes.State act list)) a act list refl)
               (states_step ready i s own_calls (lets_expire label) tt ∙ ap (λ (x : InitiatorState). expired_reads (expiring_step x.layer x.target label).0 s.states) own_calls.is
               ∙ lapsed_left lapsed s.states)
               (late_reads serial past i)).zipped
@@ -409,6 +440,21 @@ module _ (ready : Bool) (serial : ℕ) (label : LabelParts) (past : List Moment)
               (ended_kinds past (notes.TimedOut serial) i s.target s.layer (expiring_step s.layer s.target label).1 (timed_ends serial past) (h.kinds (record { serials = f_now.serials; sent = f_now.sent }))
               (expired_called ready s.layer s.target label layer_called) (expiring_stays s.layer s.target label) (λ n q a. expire_at s.layer s.target label s.target n q layer_called a) after_it late_turn.0.sides left.told
               late_turn.1.layer left.layer);
+          tied = λ f.
+              let f_now = (tame_told late_turn.0.sides late i left.told).fit f in
+              ended_tied past (notes.TimedOut serial) i s (expiring_step s.layer s.target label).1 late_turn
+              (record {
+                ends = timed_ends serial past;
+                called = expired_called ready s.layer s.target label layer_called;
+                generation = expiring_stays s.layer s.target label;
+                back = λ n q a. expire_at s.layer s.target label s.target n q layer_called a;
+                shown = after_it;
+                left = left;
+                operation = stays_or_ends s _ late_turn.1 (lapses_left s label (expires_fit ready i s own_calls label));
+                knows = late_knows label s;
+                first = moment_on (said (notes.TimedOut serial)) past i f_now.serials goes;
+              })
+              (h.tied (record { serials = f_now.serials; sent = f_now.sent }));
           live = late_live past i s h.host ready own_calls h.live serial label hosts.own;
           marked = λ f m.
               let f_now = (tame_told late_turn.0.sides late i left.told).fit f in
@@ -463,6 +509,16 @@ module _ (ready : Bool) (generation id target : ℕ) (past : List Moment) (i : �
   seen_kinds f false e =
       subst (λ (u : Turn). Kinds (behind u.0.sides sight) i u.1.target u.1.layer) (sym (see_old generation id target s e)) (still_kinds past sight i s.target s.layer (λ m k n x. x) (h.kinds f))
 
+  seen_tied : Fit past → (b : Bool) → nat_lt s.layer.generation generation ≡ b → AreTied (behind seen_turn.0.sides sight) i seen_turn.1
+  seen_tied f true e = record {
+    tied = λ m p c a. absurd (none_seen ready generation id target past i s flag h.guarded.aimed e seen_turn.1.target m (Some p) a);
+    owned = λ m a. none_seen ready generation id target past i s flag h.guarded.aimed e seen_turn.1.target m None a;
+    one = λ m n act x y a b. absurd (none_seen ready generation id target past i s flag h.guarded.aimed e seen_turn.1.target m (Some (purposes.State act x)) a);
+  }
+  seen_tied f false e =
+      subst (λ (u : Turn). AreTied (behind u.0.sides sight) i u.1) (sym (see_old generation id target s e))
+      (tied_on past sight i s (moment_on (said (notes.Seen (suc i) generation)) past i f.serials (note_first (notes.Seen (suc i) generation) past i refl)) (λ m k n x. x) (h.tied f))
+
   seen_live : (b : Bool) → nat_lt s.layer.generation generation ≡ b → IsLive seen_turn.1
   seen_live true e = λ d. untrue (sym (ap (λ (m : Marks). m.dead) (seen_own_marks ready i s own_sees generation id target ∙ ap (λ b. learned ready i s own_sees b false false) e)) ∙ d)
   seen_live false e = subst (λ (u : Turn). IsLive u.1) (sym (see_old generation id target s e)) h.live
@@ -494,6 +550,7 @@ module _ (ready : Bool) (generation id target : ℕ) (past : List Moment) (i : �
               (let g = (tame_told seen_turn.0.sides sight i told_tame).fit f in h.first (record { serials = g.serials; sent = g.sent }));
           host = hosts.own;
           kinds = λ f. (let g = (tame_told seen_turn.0.sides sight i told_tame).fit f in seen_kinds (record { serials = g.serials; sent = g.sent }) (nat_lt s.layer.generation generation) refl);
+          tied = λ f. (let g = (tame_told seen_turn.0.sides sight i told_tame).fit f in seen_tied (record { serials = g.serials; sent = g.sent }) (nat_lt s.layer.generation generation) refl);
           live = seen_live (nat_lt s.layer.generation generation) refl;
           marked = λ f m.
               let g = (tame_told seen_turn.0.sides sight i told_tame).fit f in
@@ -504,6 +561,17 @@ module _ (ready : Bool) (generation id target : ℕ) (past : List Moment) (i : �
       }
 
 -- ---- an action
+cond_same : {A : Type 0} (n : ℕ) (x y : A) → cond (nat_eq n n) x y ≡ x
+cond_same n x y = let e : nat_eq n n ≡ true = grind (arith, nat_tests) in ap (λ b. cond b x y) e
+
+-- of the line of a packet
+pub asked_here : (serial generation to : ℕ) (bytes : List ℕ) (past : List Moment) (i : ℕ) → asked_in (said (notes.Sent serial generation (suc i) to bytes) ∷ past) serial i ≡ own_action i (event_of past)
+asked_here serial generation to bytes past i =
+    cond_same serial (cond (nat_eq i i) (own_action i (event_of past)) (asked_in past serial i)) (asked_in past serial i) ∙ cond_same i (own_action i (event_of past)) (asked_in past serial i)
+
+own_here : (i : ℕ) (action : Action) → own_action i (Some (events.Act i action)) ≡ Some action
+own_here i action = cond_same i (Some action) None
+
 is_state : (action : Action) → is_read action ≡ true → action ≡ actions.State
 is_state actions.State e = refl
 is_state _ e = untrue e
@@ -603,6 +671,41 @@ module _ (ready : Bool) (action : Action) (past : List Moment) (i : ℕ) (s : In
         (subst (λ rs. AreZipped (IsPair ms i act_turn.1) rs s.states) (sym (told_reads act_turn.0.sides past i left.told))
         (zipped_map (IsPair past i s) (IsPair ms i act_turn.1) quiet_pair (Reads past i) s.states z))
 
+    quiet_tied : AreTied past i s → AreTied ms i act_turn.1
+    quiet_tied k =
+        let under = tied_on past ms i s (told_on act_turn.0.sides past i left.told) (λ m kind n e. ap (λ (y : Terms). y.held (transaction s.layer.generation (suc i) 0 m)) told.wire ∙ e) k in
+        record {
+          tied = λ m p d a.
+              let x = under.tied m p d (earlier_at m (Some p) a) in
+              record {
+                kind = x.kind;
+                serial = x.serial;
+                held = ap (λ (l : Layer Purpose). (terms ms).held (transaction l.generation (suc i) 0 m)) (left.quiet none) ∙ x.held;
+                first = λ u e r f. x.first u e r (running_on u e r f);
+                below = x.below;
+                action = x.action;
+                asked = x.asked;
+                makes = x.makes;
+                knows = λ e. knows_goes (x.knows e);
+              };
+          owned = λ m a. under.owned m (earlier_at m None a);
+          one = λ m n act y z a b. under.one m n act y z (earlier_at m (Some (purposes.State act y)) a) (earlier_at n (Some (purposes.State act z)) b);
+        }
+      where
+        knows_goes : {X : Type 0} → Knows s ⊎ X → Knows act_turn.1 ⊎ X
+        knows_goes (inl h) = inl (acted_knows action s done_is h)
+        knows_goes (inr x) = inr x
+
+        earlier_at : (m : ℕ) (p : Option Purpose) → At act_turn.1.layer act_turn.1.target m p → At s.layer s.target m p
+        earlier_at m p a = subst (λ (l : Layer Purpose). At l s.target m p) (left.quiet none) (subst (λ n. At act_turn.1.layer n m p) left.target_is a)
+
+        by : (o : Option Operation) → begins ≡ o → (u : Underway) → (host_at past i).operation ≡ Some u → (r : Running) → act_turn.1.operation ≡ Some r → s.operation ≡ Some r
+        by None e u f r g = was_running None e r g refl
+        by (Some operation) e u f r g = absurd (no_underway operation e u f)
+
+        running_on : (u : Underway) → (host_at ms i).operation ≡ Some u → (r : Running) → act_turn.1.operation ≡ Some r → s.operation ≡ Some r
+        running_on u e r f = (let w = goes_told.on u e in by begins refl w.was w.is r f)
+
   -- and one that sends a request
   module _ (packet : Outgoing) (one : act_turn.0.packets ≡ packet ∷ []) (serial generation : ℕ) (injected : (terms past).injected serial ≡ false) (q : IsRequest (number_in packet.label) packet.bytes) where
     abbrev now : List Moment
@@ -676,10 +779,121 @@ module _ (ready : Bool) (action : Action) (past : List Moment) (i : ℕ) (s : In
               let first = first_is operation (same_operation action ∙ o) u e in
               let new = serial_is in
               let of_act = act_is operation o r g in
-              let old = earlier_of ready i s cored.own.called s.target p.number act p.list p.at in
+              let old = earlier_of ready i s cored.own.called s.target p.number (Some (purposes.State act p.list)) p.at (purposes.State act p.list) refl in
               let no : nat_lt u.first read.serial ≡ false = grind (arith, nat_tests, b, first, new) in
               let nor : nat_lt r.act act ≡ false = grind (arith, nat_tests, of_act, old) in
               no ∙ sym nor
+
+      -- the other requests that are under way
+      module _ (m : ℕ) (p : Purpose) (k : Tied past i s m p) (a : At s.layer s.target m (Some p)) where
+        old_first : (o : Option Operation) → begins ≡ o → (u : Underway) → (host_at now i).operation ≡ Some u → (r : Running) → act_turn.1.operation ≡ Some r → (u.first == k.serial) ≡ is_of p r.act
+        old_first None o u e r g = (let w = (goes_now (same_operation action ∙ o)).on u e in ap (λ n. n == k.serial) (sym w.first) ∙ k.first w.was w.is r (was_running None o r g refl))
+        old_first (Some operation) o u e r g =
+            let b = k.below in
+            let first = first_is operation (same_operation action ∙ o) u e in
+            let new = serial_is in
+            let no : (u.first == k.serial) ≡ false = grind (arith, nat_tests, b, first, new) in
+            no ∙ sym (ap (is_of p) (act_is operation o r g) ∙ earlier_not p s.counts.acts (earlier_of ready i s cored.own.called s.target m (Some p) a p refl))
+
+        old_tied : Tied now i act_turn.1 m p
+        old_tied = record {
+          kind = k.kind;
+          serial = k.serial;
+          held =
+              ap (λ g. (terms now).held (transaction g (suc i) 0 m)) stays
+              ∙ sent_waits (terms ms) serial sending f.sent.0 (transaction s.layer.generation (suc i) 0 m) k.kind k.serial (ap (λ (y : Terms). y.held (transaction s.layer.generation (suc i) 0 m)) told.wire ∙ k.held);
+          first = λ u e r g. old_first begins refl u e r g;
+          below = (let b = k.below in let c = count_is in let d = count_now in omega (arith, b, c, d));
+          action = k.action;
+          asked = asked_sent serial generation (suc i) 0 packet.bytes ms i k.serial (let b = k.below in let c = count_is in omega (arith, b, c)) f.serials.0 ∙ (ap (λ g. g k.serial i) (asked_told act_turn.0.sides past left.told) ∙ k.asked);
+          makes = k.makes;
+          knows = λ e. old_knows (k.knows e);
+        }
+          where
+            sent_knows : Knows act_turn.1 ⊎ IsNull ms k.serial → k.serial ≤ (terms ms).count → Knows act_turn.1 ⊎ IsNull now k.serial
+            sent_knows (inl h) l = inl h
+            sent_knows (inr h) l = inr (λ other access e spelled. h other access (sym ((step (said (notes.Sent serial generation (suc i) 0 packet.bytes)) ms f.serials).sent k.serial l) ∙ e) spelled)
+
+            old_knows : Knows s ⊎ IsNull past k.serial → Knows act_turn.1 ⊎ IsNull now k.serial
+            old_knows h =
+                let a = told_on act_turn.0.sides past i left.told in
+                let b = k.below in
+                let c = a.count in
+                sent_knows (knows_on past ms i s act_turn.1 a (acted_knows action s done_is) k.serial k.below h) (omega (arith, b, c))
+
+      -- and this one
+      module _ (m : ℕ) (p : Purpose) (plain : is_plain p ≡ true) (its : m ≡ x.asked.label.number) (purpose_is : x.demand.purpose ≡ p) where
+        new_first : (o : Option Operation) → begins ≡ o → (u : Underway) → (host_at now i).operation ≡ Some u → (r : Running) → act_turn.1.operation ≡ Some r → (u.first == serial) ≡ is_of p r.act
+        new_first None o u e r g =
+            let w = (goes_now (same_operation action ∙ o)).on u e in
+            let b = h.first fit_past w.was w.is in
+            let same = w.first in
+            let new = serial_is in
+            let no : (u.first == serial) ≡ false = grind (arith, nat_tests, b, same, new) in
+            no ∙ sym (ap (λ q. is_of q r.act) (sym purpose_is) ∙ asks_none action s x.demand x.is o r.act)
+        new_first (Some operation) o u e r g =
+            let first = first_is operation (same_operation action ∙ o) u e in
+            let yes : (u.first == serial) ≡ true = grind (arith, nat_tests, first) in
+            yes ∙ sym (ap (λ q. is_of q r.act) (sym purpose_is) ∙ ap (is_of x.demand.purpose) (act_is operation o r g) ∙ asks_own action s x.demand operation x.is o (ap is_plain purpose_is ∙ plain))
+
+        new_tied : Tied now i act_turn.1 m p
+        new_tied = record {
+          kind = kind_in (part_of packet.bytes);
+          serial = serial;
+          held =
+              ap (λ g. (terms now).held (transaction g (suc i) 0 m)) stays
+              ∙ sent_begun serial sending (terms ms) (transaction s.layer.generation (suc i) 0 m)
+              (asked_begun sending (between sending sending.from sending.to (number_in packet.label)) honest (request_asked sending (number_in packet.label) q.kind q.part)
+              ∙ ap (λ g. Some (transaction g (suc i) 0 (number_in packet.label)))
+              (generation_is action past i s done_is known shown called_now (h.kinds fit_past) left packet one serial generation injected q f)
+              ∙ ap (λ n. Some (transaction s.layer.generation (suc i) 0 n)) (ap number_in x.label ∙ sym its));
+          first = λ u e r g. new_first begins refl u e r g;
+          below = (let a = f.serials.0 in let d = count_now in omega (arith, a, d));
+          action = action;
+          asked = asked_here serial generation 0 packet.bytes ms i ∙ ap (own_action i) (told.line ∙ under) ∙ own_here i action;
+          makes = asks_makes action s x.demand x.is (ap is_plain purpose_is ∙ plain) ∙ ap is_managing purpose_is;
+          knows = λ e. new_knows (asks_known action s x.demand x.is (ap is_managing purpose_is ∙ e));
+        }
+          where
+            bytes_spelled : access_in_bytes packet.bytes ≡ access_of (request_with (header_to 0 0 0) (wanted_body x.demand.wanted))
+            bytes_spelled =
+                let has = act_bytes action s packet done_is one in
+                let same : has.demand ≡ x.demand = same_Some has.demand x.demand (sym has.is ∙ x.is) in
+                ap access_in_bytes has.bytes ∙ known.spelled action has.demand has.asked has.is has.found ∙ ap (λ (d : Demand). access_of (request_with (header_to 0 0 0) (wanted_body d.wanted))) same
+
+            new_knows : Knows s ⊎ ((access : Access) → access_of (request_with (header_to 0 0 0) (wanted_body x.demand.wanted)) ≡ Some access → access.offset ≡ 0) → Knows act_turn.1 ⊎ IsNull now serial
+            new_knows (inl h) = inl (acted_knows action s done_is h)
+            new_knows (inr h) = inr (λ other access e spelled. (let same : sending ≡ other = same_Some sending other (sym (sent_new serial sending (terms ms)) ∙ e) in h access (sym bytes_spelled ∙ ap (λ (y : Sending). access_in_bytes y.bytes) same ∙ spelled)))
+
+      asking_tied : AreTied past i s → AreTied now i act_turn.1
+      asking_tied k = record {
+        tied = λ m p d a. by_asked m p d (asked_at m (Some p) a);
+        owned = λ m a. none_asked m (asked_at m None a);
+        one = λ m n act y z a b. one_asked m n act y z (asked_at m (Some (purposes.State act y)) a) (asked_at n (Some (purposes.State act z)) b);
+      }
+        where
+          asked_at : (m : ℕ) (p : Option Purpose) → At act_turn.1.layer act_turn.1.target m p → AskedAt s.layer s.target x.asked x.demand.purpose s.target m p
+          asked_at m p a = ask_at s.layer s.target (wanted_body x.demand.wanted) x.demand.purpose x.asked act_turn.1.layer s.target m p called_now x.step (subst (λ n. At act_turn.1.layer n m p) left.target_is a)
+
+          by_asked : (m : ℕ) (p : Purpose) → is_plain p ≡ true → AskedAt s.layer s.target x.asked x.demand.purpose s.target m (Some p) → Tied now i act_turn.1 m p
+          by_asked m p d (asked_now peer n e) = new_tied m p d n (same_Some x.demand.purpose p (sym e))
+          by_asked m p d (was_asked b) = old_tied m p (k.tied m p d b) b
+
+          not_earlier : {A : Type 0} (m act : ℕ) (y z : Option ℕ) → Some (purposes.State act y) ≡ Some x.demand.purpose → At s.layer s.target m (Some (purposes.State act z)) → A
+          not_earlier m act y z e b =
+              let now_is = reads_now action s x.demand x.is act y (same_Some x.demand.purpose (purposes.State act y) (sym e)) in
+              let then = earlier_of ready i s cored.own.called s.target m (Some (purposes.State act z)) b (purposes.State act z) refl in
+              absurd (omega (arith, now_is, then))
+
+          one_asked : (m n act : ℕ) (y z : Option ℕ) → AskedAt s.layer s.target x.asked x.demand.purpose s.target m (Some (purposes.State act y)) → AskedAt s.layer s.target x.asked x.demand.purpose s.target n (Some (purposes.State act z)) → m ≡ n
+          one_asked m n act y z (asked_now p a e) (asked_now q b g) = a ∙ sym b
+          one_asked m n act y z (asked_now p a e) (was_asked b) = not_earlier n act y z e b
+          one_asked m n act y z (was_asked a) (asked_now q b g) = not_earlier m act z y g a
+          one_asked m n act y z (was_asked a) (was_asked b) = k.one m n act y z a b
+
+          none_asked : (m : ℕ) → AskedAt s.layer s.target x.asked x.demand.purpose s.target m None → ⊥
+          none_asked m (asked_now peer n e) = none_is x.demand.purpose e
+          none_asked m (was_asked b) = k.owned m b
 
       -- the one that the action begins
       module _ (is : action ≡ actions.State) where
@@ -812,6 +1026,7 @@ module _ (ready : Bool) (action : Action) (past : List Moment) (i : ℕ) (s : In
           first = λ f. first_on past ms i s goes_told (least _ _ (ap (λ (y : Terms). y.count) told.wire)) (h.first (told.fit f));
           host = hosts.quiet none;
           kinds = λ f. quiet_kinds none (told.fit f);
+          tied = λ f. quiet_tied none (h.tied (told.fit f));
           live = acted_live ready action past i s fit.0 done_is h.host cored.own.called h.live (hosts.quiet none).rows.fits.present;
           marked = λ f m. acted_marked ready action past i s fit.0 done_is h.host cored.own.called (h.marked (told.fit f) (told_timely act_turn.0.sides past left.told m));
         };
@@ -826,6 +1041,7 @@ module _ (ready : Bool) (action : Action) (past : List Moment) (i : ℕ) (s : In
           kinds = λ f.
               subst (λ n. Kinds (said (notes.Sent serial generation (suc i) 0 packet.bytes) ∷ ms) i n act_turn.1.layer) (sym left.target_is)
               (asking_kinds action past i s done_is known shown (called_of cored) (h.kinds (fit_past packet one serial generation injected q f)) left packet one serial generation injected q f);
+          tied = λ f. asking_tied packet one serial generation injected q f (h.tied (fit_past packet one serial generation injected q f));
           live = acted_live ready action past i s fit.0 done_is h.host cored.own.called h.live (hosts.asking packet one serial generation injected q).rows.fits.present;
           marked = λ f m. asking_marked packet one serial generation injected q f
               (h.marked (fit_past packet one serial generation injected q f) (told_timely act_turn.0.sides past left.told m.1));
@@ -869,6 +1085,11 @@ first_paired line i initiators ready b =
       first = λ f u e. none_is u (sym (begun_none (ready && nat_lt i initiators) i) ∙ e);
       host = first_host line i initiators ready;
       kinds = λ f m p c a. absurd (not_yet (at_life (0xffc1 + i) [] (new_state i ready).target m (Some p) a));
+      tied = λ f. record {
+        tied = λ m p c a. absurd (not_yet (at_life (0xffc1 + i) [] (new_state i ready).target m (Some p) a));
+        owned = λ m a. not_yet (at_life (0xffc1 + i) [] (new_state i ready).target m None a);
+        one = λ m n act x y a b. absurd (not_yet (at_life (0xffc1 + i) [] (new_state i ready).target m (Some (purposes.State act x)) a));
+      };
       live = λ e. untrue e;
       marked = λ f m. begun_marks (ready && nat_lt i initiators) i;
     }

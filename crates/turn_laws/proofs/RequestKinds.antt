@@ -152,32 +152,37 @@ still_kinds past now i target layer stays k m p c a = (let w = k m p c a in reco
 not_rom : {A : Type 0} (purpose : Purpose) (act : ℕ) → is_plain purpose ≡ true → Some purpose ≡ Some (purposes.Rom act) → A
 not_rom purpose act c e = untrue (let f : purpose ≡ purposes.Rom act = cc in sym (ap is_plain f) ∙ c)
 
--- a transaction ends
+-- ---- a transaction ends
+
+-- what is under way behind what is told then was so before, but the next read of a ROM
+pub from_left : (l new : Layer Purpose) (target : ℕ) → Called l → LayerLeft l target new → (m : ℕ) (purpose : Purpose) → is_plain purpose ≡ true → At new target m (Some purpose) → At l target m (Some purpose)
+from_left l new target c (same g p) m purpose d a = at_same new l target m (Some purpose) (sym p) a
+from_left l new target c (read body act quad step) m purpose d a = by_asked (ask_at l target body (purposes.Rom act) quad new target m (Some purpose) c step a)
+  where
+    by_asked : AskedAt l target quad (purposes.Rom act) target m (Some purpose) → At l target m (Some purpose)
+    by_asked (asked_now p n f) = not_rom purpose act d f
+    by_asked (was_asked b) = b
+
+-- and it waits for what it waited for
+pub ends_held : (past : List Moment) (note : Note) (i target : ℕ) (old l : Layer Purpose) → Ends past note → l.generation ≡ old.generation → IsShown (said note ∷ past) i target l → (m : ℕ) (kind : ReplyKind) → shape (state_for l.peers target m) ≡ awaits kind
+    → (terms (said note ∷ past)).held (transaction old.generation (suc i) 0 m) ≡ (terms past).held (transaction old.generation (suc i) 0 m)
+ends_held past note i target old l e generation_is shown m kind w =
+    e (transaction old.generation (suc i) 0 m) kind (ap (λ g. shape_of ((terms (said note ∷ past)).held (transaction g (suc i) 0 m))) (sym generation_is) ∙ sym (shown.states m) ∙ w)
+
 module _ (past : List Moment) (note : Note) (i target : ℕ) (old l : Layer Purpose) (e : Ends past note) (k : Kinds past i target old) (c : Called l) (generation_is : l.generation ≡ old.generation) (back : (number : ℕ) (purpose : Option Purpose) → At l target number purpose → At old target number purpose) (shown : IsShown (said note ∷ past) i target l) (told : List Side) (tame : AreTame told) where
   abbrev ended : List Moment
   ended = said note ∷ past
 
-  here : (m : ℕ) (kind : ReplyKind) → shape (state_for l.peers target m) ≡ awaits kind → (terms ended).held (transaction old.generation (suc i) 0 m) ≡ (terms past).held (transaction old.generation (suc i) 0 m)
-  here m kind w =
-      e (transaction old.generation (suc i) 0 m) kind (ap (λ g. shape_of ((terms ended).held (transaction g (suc i) 0 m))) (sym generation_is) ∙ sym (shown.states m) ∙ w)
-
-  from_left : (new : Layer Purpose) → LayerLeft l target new → (m : ℕ) (purpose : Purpose) → is_plain purpose ≡ true → At new target m (Some purpose) → At l target m (Some purpose)
-  from_left new (same g p) m purpose d a = at_same new l target m (Some purpose) (sym p) a
-  from_left new (read body act quad step) m purpose d a = by_asked (ask_at l target body (purposes.Rom act) quad new target m (Some purpose) c step a)
-    where
-      by_asked : AskedAt l target quad (purposes.Rom act) target m (Some purpose) → At l target m (Some purpose)
-      by_asked (asked_now p n f) = not_rom purpose act d f
-      by_asked (was_asked b) = b
-
   pub ended_kinds : (new : Layer Purpose) → LayerLeft l target new → Kinds (behind told ended) i target new
   ended_kinds new left m p d a =
-      let b = from_left new left m p d a in
+      let b = from_left l new target c left m p d a in
       let w = k m p d (back m (Some p) b) in
       record {
         serial = w.serial;
         held =
             ap (λ x. (terms (behind told ended)).held (transaction x (suc i) 0 m)) (left_generation l target new left ∙ generation_is)
-            ∙ ap (λ (x : Terms). x.held (transaction old.generation (suc i) 0 m)) (tame_told told ended i tame).wire ∙ here m b.kind (ap shape b.state) ∙ w.held;
+            ∙ ap (λ (x : Terms). x.held (transaction old.generation (suc i) 0 m)) (tame_told told ended i tame).wire
+            ∙ ends_held past note i target old l e generation_is shown m b.kind (ap shape b.state) ∙ w.held;
       }
 
 -- an action asks for it

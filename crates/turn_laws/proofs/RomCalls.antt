@@ -40,6 +40,7 @@ use Rattle.sbp_journal.specs.declared.operation.Operation.TheVariants as operati
 use Rattle.sbp_journal.specs.declared.outbox.Outgoing.{Outgoing}
 use Rattle.sbp_world.specs.Hosts.Calling.{IsCalled}
 use Rattle.sbp_world.proofs.Common.{none_is, some_none, untrue}
+use Rattle.sbp_laws.specs.Hosts.{operation_of}
 use Rattle.sbp_world.proofs.Hosts.ActLeft.{ActLeft, HasAsked, act_left}
 use Rattle.sbp_world.proofs.Hosts.Aimed.{Aims, IsAimed}
 use Rattle.sbp_world.proofs.Hosts.Hosted.{expires_fit, marks_of}
@@ -49,14 +50,14 @@ use Rattle.sbp_world.proofs.Hosts.Requested.{AreRequests}
 use Rattle.sbp_world.proofs.Hosts.Lives.{At, AskedAt, Called, ask_at, ask_begins, ask_keeps, asked_now, at_life, expire_at, was_asked}
 use Rattle.sbp_world.proofs.Hosts.Pointed.{expiring_stays}
 use Rattle.sbp_world.proofs.Hosts.Pointing.{asked_generation}
-use Rattle.sbp_world.proofs.Lists.ManageActs.{act_operation}
+use Rattle.sbp_world.proofs.Lists.ManageActs.{act_operation, same_operation}
 use Rattle.sbp_world.proofs.Lists.ManageHears.{lapses_left}
 use Rattle.sbp_world.proofs.Pointers.Asks.{act_allowed}
 use Rattle.sbp_world.proofs.Pointers.Finds.{expires_at, none_ended, same_serial}
 use Rattle.sbp_world.proofs.Pointers.WaitActs.{none_seen}
 use Rattle.turn_laws.proofs.OwnTurns.{by_life}
 use Rattle.turn_laws.proofs.ReadsUnderWay.{LapsedFor, expire_goes}
-use Rattle.turn_laws.proofs.RomLabels.{CallRom, IsGone, OneRom, RomAt, Within, called_layer, ended_call, from, next_call, plainly, same_rom, sends_none, was_by}
+use Rattle.turn_laws.proofs.RomLabels.{CallRom, IsGone, OneRom, RomAt, WasSo, Within, called_layer, ended_call, from, next_call, plainly, same_rom, sends_none, was_by}
 use Rattle.sbp_world.proofs.Lists.ManageSees.{none_later}
 
 -- ---- a transaction that timed out is over
@@ -106,6 +107,10 @@ pub record LeavesRom (s : InitiatorState) (t : Turn) : Type 0 where
   pub was : (r : Running) → t.1.operation ≡ Some r → r.operation ≡ operations.Rom → s.operation ≡ Some r
   pub one : OneRom t.1
 
+pub data After (action : Action) (s : InitiatorState) (r : Running) : Type 0 where
+  went_on : s.operation ≡ Some r → After action s r
+  begun : (operation : Operation) → operation_of action ≡ Some operation → s.operation ≡ None → After action s r
+
 pub data ActRom (s : InitiatorState) (t : Turn) : Type 0 where
   act_quiet : LeavesRom s t → t.0.packets ≡ [] → ActRom s t
   act_other : LeavesRom s t → (asked : Asked) (packet : Outgoing) → t.0.packets ≡ packet ∷ [] → packet.label ≡ Some asked.label → ((n a : ℕ) → RomAt t.1.layer t.1.target n a → n ≡ asked.label.number → ⊥) → ActRom s t
@@ -134,8 +139,8 @@ module _ (ready : Bool) (i : ℕ) (s : InitiatorState) (own : IsCalled ready i s
     back : (n a : ℕ) → RomAt late_layer s.target n a → RomAt s.layer s.target n a
     back n a x = expire_at s.layer s.target label s.target n (Some (purposes.Rom a)) c x
 
-    was : (t : Turn) → late_turn ≡ t → (r : Running) → t.1.operation ≡ Some r → r.operation ≡ operations.Rom → s.operation ≡ Some r
-    was t is r e k = was_by s late_turn.1 _ (lapses_left s label (expires_fit ready i s own label)) r (ap (λ (x : Turn). x.1.operation) is ∙ e)
+    was : (t : Turn) → late_turn ≡ t → WasSo s t
+    was t is r e = was_by s late_turn.1 _ (lapses_left s label (expires_fit ready i s own label)) r (ap (λ (x : Turn). x.1.operation) is ∙ e)
 
     target : (t : Turn) → late_turn ≡ t → t.1.target ≡ s.target
     target t is = ap (λ (x : Turn). x.1.target) (sym is) ∙ (expire_left label s).target_is
@@ -167,7 +172,7 @@ module _ (ready : Bool) (i : ℕ) (s : InitiatorState) (own : IsCalled ready i s
     by_found (Err stale, l) e is =
         let k = ap (λ (y : Result (Option Purpose) Stale × Layer Purpose). y.1) e in
         plainly ready i s own aims valid small h late_layer called_late valid_late (expiring_stays s.layer s.target label) back _ (target _ is) (was _ is) (ap (λ (y : Layer Purpose). y.peers) (sym k)) (ap (λ (y : Layer Purpose). y.generation) (sym k))
-        (λ n a x. forth n a (expire_goes s.layer s.target n (Some (purposes.Rom a)) c x s.target label)) (λ r o m. (o, sends_none refl))
+        (λ n a x. forth n a (expire_goes s.layer s.target n (Some (purposes.Rom a)) c x s.target label)) (λ r o m. o) (sends_none refl)
       where
         forth : (n a : ℕ) → RomAt late_layer s.target n a ⊎ LapsedFor found (Some (purposes.Rom a)) → RomAt late_layer s.target n a
         forth n a (inl y) = y
@@ -208,6 +213,14 @@ module _ (ready : Bool) (i : ℕ) (s : InitiatorState) (own : IsCalled ready i s
 
     operation_now : act_turn.1.operation ≡ after_by begins s
     operation_now = act_operation action s (act_allowed action s done_is) (marks_of ready i s own) done_is
+
+    -- what is under way behind it was so before, or it begins
+    pub act_after : (r : Running) → act_turn.1.operation ≡ Some r → After action s r
+    act_after r e = by begins refl (sym operation_now ∙ e) (act_allowed action s done_is).free
+      where
+        by : (x : Option Operation) → begins ≡ x → after_by x s ≡ Some r → IsFree x s → After action s r
+        by None f g free = went_on g
+        by (Some operation) f g free = begun operation (same_operation action ∙ f) free
 
     act_was : (r : Running) → act_turn.1.operation ≡ Some r → r.operation ≡ operations.Rom → s.operation ≡ Some r
     act_was r e k = by begins refl (sym operation_now ∙ e)

@@ -182,14 +182,14 @@ no_quad (Payload bytes) quads = refl
 no_quad answer quads = refl
 
 -- ---- the operation of the terms, by that of the initiator
-rom_operation : (u : Underway) (r : Running) → u.operation ≡ r.operation → is_rom (Some u) ≡ true → r.operation ≡ operations.Rom
+pub rom_operation : (u : Underway) (r : Running) → u.operation ≡ r.operation → is_rom (Some u) ≡ true → r.operation ≡ operations.Rom
 rom_operation u r e f = sym e ∙ by u.operation refl f
   where
     by : (operation : Operation) → u.operation ≡ operation → is_rom (Some (record u { operation = operation })) ≡ true → operation ≡ operations.Rom
     by operations.Rom g k = refl
     by operation g k = untrue k
 
-word_is : (u : Underway) (r : Running) → work_of (Some u) ≡ work_in (Some r) → r.operation ≡ operations.Rom → is_rom (Some u) ≡ true
+pub word_is : (u : Underway) (r : Running) → work_of (Some u) ≡ work_in (Some r) → r.operation ≡ operations.Rom → is_rom (Some u) ≡ true
 word_is u r w k = ap (λ o. is_rom (Some (record u { operation = o }))) (operation_same u r w ∙ k)
 
 no_work : (u : Underway) → work_of (Some u) ≡ work_in None → ⊥
@@ -369,15 +369,16 @@ module _ (units ready : ℕ) (start : List Disk) (past : List Moment) (s : Scene
       answered u =
           ap (λ x. got_quads x wire serial u host.quads) a.answered ∙ ap (λ x. with_quad (answer_in x) (is_rom u && is_latest u a.own) host.quads) (packet_is p read)
 
-      -- of a read of a quadlet
-      pub quad_answers : a.waited ≡ reading_quadlet → IsRead (ending_of p) (answer_of p)
-      quad_answers quad =
-          quad_read (ending_of p) (answer_of p)
-          (subst (λ k. IsEndOf k (ending_of p) (answer_of p)) quad
-          (packet_ends p (read_small one.bytes bytes_are p read) (header_in p).label a.kind a.waited (sym (part_read one.bytes p read) ∙ a.part) a.alike))
+      -- how it ends its request
+      pub packet_answers : IsEndOf a.waited (ending_of p) (answer_of p)
+      packet_answers = packet_ends p (read_small one.bytes bytes_are p read) (header_in p).label a.kind a.waited (sym (part_read one.bytes p read) ∙ a.part) a.alike
         where
           bytes_are : AreBytes one.bytes
           bytes_are = (stands.is.knows.ours serial q (ap (λ (t : Terms). t.sent serial) (past_terms s.world stands) ∙ was_it)).bytes
+
+      -- of a read of a quadlet
+      pub quad_answers : a.waited ≡ reading_quadlet → IsRead (ending_of p) (answer_of p)
+      quad_answers quad = quad_read (ending_of p) (answer_of p) (subst (λ k. IsEndOf k (ending_of p) (answer_of p)) quad packet_answers)
 
       -- of the latest read of a ROM
       module _ (act : ℕ) (rom_is : purpose ≡ Some (purposes.Rom act)) where

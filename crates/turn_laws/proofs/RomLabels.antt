@@ -87,10 +87,18 @@ pub data IsQuiet (t : Turn) : Type 0 where
   sends_none : t.0.packets ≡ [] → IsQuiet t
   sends_reply : (to : ℕ) (bytes : List ℕ) → IsReply bytes → t.0.packets ≡ (let p : Outgoing = record { to = to; label = None; bytes = bytes } in p) ∷ [] → IsQuiet t
 
+-- the operation under way was so before
+abbrev pub WasSo : InitiatorState → Turn → Type 0
+WasSo s t = (r : Running) → t.1.operation ≡ Some r → s.operation ≡ Some r
+
+-- none is under way but a ROM
+abbrev pub OnlyRom : InitiatorState → Type 0
+OnlyRom u = (r : Running) → u.operation ≡ Some r → r.operation ≡ operations.Rom
+
 -- It leaves the labels; or its one packet asks for a quadlet, under the one label of a ROM.
 pub data CallRom (s : InitiatorState) (t : Turn) : Type 0 where
-  stays : ((n a : ℕ) → RomAt t.1.layer t.1.target n a → RomAt s.layer s.target n a) → t.1.layer.generation ≡ s.layer.generation → IfRom t.1 (λ r. s.operation ≡ Some r) → IfRom s (λ r. IsQuiet t) → OneRom t.1 → CallRom s t
-  reads : (asked : Asked) (a : ℕ) → t.0.packets ≡ outgoing s.target asked ∷ [] → part_of asked.bytes ≡ request asked.label.number reading_quadlet → RomAt t.1.layer t.1.target asked.label.number a → ((n b : ℕ) → RomAt t.1.layer t.1.target n b → n ≡ asked.label.number) → OneRom t.1 → CallRom s t
+  stays : ((n a : ℕ) → RomAt t.1.layer t.1.target n a → RomAt s.layer s.target n a) → t.1.layer.generation ≡ s.layer.generation → WasSo s t → IsQuiet t → OneRom t.1 → CallRom s t
+  reads : (asked : Asked) (a : ℕ) → t.0.packets ≡ outgoing s.target asked ∷ [] → part_of asked.bytes ≡ request asked.label.number reading_quadlet → RomAt t.1.layer t.1.target asked.label.number a → ((n b : ℕ) → RomAt t.1.layer t.1.target n b → n ≡ asked.label.number) → OnlyRom t.1 → OneRom t.1 → CallRom s t
 
 -- a request that asks for a quadlet is a read of one
 abbrev flag : (Access → Bool) → Option Access → Bool
@@ -153,20 +161,20 @@ module _ (s : InitiatorState) (h : OneRom s) (t : Turn) (target_is : t.1.target 
       has = λ r e k. (let l = h.has r (was r e k) k in record { number = l.number; at = subst (λ p. RomAt t.1.layer p l.number r.act) (sym target_is) (forth l.number r.act l.at) });
     }
 
-    pub plain_call : IfRom s (λ r. IsQuiet t) → CallRom s t
-    plain_call quiet = stays from generation_is was quiet same_rom
+    pub plain_call : WasSo s t → IsQuiet t → CallRom s t
+    plain_call so quiet = stays from generation_is so quiet same_rom
 
   -- where none is left, and no operation
   pub over_call : ((n a : ℕ) → RomAt t.1.layer s.target n a → ⊥) → t.1.layer.generation ≡ s.layer.generation → t.1.operation ≡ None → t.0.packets ≡ [] → CallRom s t
   over_call none generation_is ended sent =
       let never : (n a : ℕ) → RomAt t.1.layer t.1.target n a → ⊥ = λ n a x. none n a (subst (λ p. RomAt t.1.layer p n a) target_is x) in
-      stays (λ n a x. absurd (never n a x)) generation_is (λ r e k. none_is r (sym ended ∙ e)) (λ r e k. sends_none sent)
+      stays (λ n a x. absurd (never n a x)) generation_is (λ r e. none_is r (sym ended ∙ e)) (sends_none sent)
       (record { runs = λ n a x. absurd (never n a x); one = λ n a m b x y. absurd (never n a x); has = λ r e k. none_is r (sym ended ∙ e) })
 
   -- where one is asked for behind that
   module _ (small : s.target < 2 ^ 16) (l : Layer Purpose) (valid : IsLayer l) (c : Called l) (none : (n a : ℕ) → RomAt l s.target n a → ⊥) where
     pub next_call : (offset : ℕ) (asked : Asked) (r : Running) → FitsRequest (quadlet_read offset) → t.1.operation ≡ Some r → r.operation ≡ operations.Rom → asking_step l s.target (quadlet_read offset) (purposes.Rom r.act) ≡ (Some asked, t.1.layer) → t.0.packets ≡ outgoing s.target asked ∷ [] → CallRom s t
-    next_call offset asked r fits is kind step sent = reads asked r.act sent asks begins only (record {
+    next_call offset asked r fits is kind step sent = reads asked r.act sent asks begins only (λ q e. ap (λ (y : Running). y.operation) (sym (same_some r q (sym is ∙ e))) ∙ kind) (record {
       runs = λ n a x. record { running = r; is = is; kind = kind; act = sym (rom_is n a x) };
       one = λ n a m b x y. only n a x ∙ sym (only m b y);
       has = λ q e k. record { number = asked.label.number; at = subst (λ (y : Running). RomAt t.1.layer t.1.target asked.label.number y.act) (same_some r q (sym is ∙ e)) begins };
@@ -243,14 +251,14 @@ module _ (ready : Bool) (i : ℕ) (s : InitiatorState) (own : IsCalled ready i s
     abbrev Ends : Option Purpose → Type 0
     Ends q = (a : ℕ) → q ≡ Some (purposes.Rom a) → IsGone J a
 
-    module _ (t : Turn) (target_is : t.1.target ≡ s.target) (was : IfRom t.1 (λ r. s.operation ≡ Some r)) where
+    module _ (t : Turn) (target_is : t.1.target ≡ s.target) (was : WasSo s t) where
       -- where it leaves the layer so
-      pub plainly : t.1.layer.peers ≡ J.peers → t.1.layer.generation ≡ J.generation → Within s.layer J s.target → IfRom s (λ r. (t.1.operation ≡ Some r) × IsQuiet t) → CallRom s t
-      plainly peers g forth rom =
+      pub plainly : t.1.layer.peers ≡ J.peers → t.1.layer.generation ≡ J.generation → Within s.layer J s.target → IfRom s (λ r. t.1.operation ≡ Some r) → IsQuiet t → CallRom s t
+      plainly peers g forth rom quiet =
           plain_call s h t target_is
           (λ n a x. back n a (at_same t.1.layer J s.target n (Some (purposes.Rom a)) (sym peers) x))
           (λ n a x. at_same J t.1.layer s.target n (Some (purposes.Rom a)) peers (forth n a x))
-          (g ∙ generation_is) was (λ r e k. (rom r e k).0) (λ r e k. (rom r e k).1)
+          (g ∙ generation_is) (λ r e k. was r e) rom was quiet
 
       module _ (ending : Ending) where
         abbrev By : Purpose → Turn
@@ -275,10 +283,11 @@ module _ (ready : Bool) (i : ℕ) (s : InitiatorState) (own : IsCalled ready i s
         other_call : (purpose : Purpose) → is_plain purpose ≡ true → Fits purpose s.operation → Within s.layer J s.target → t ≡ By purpose → CallRom s t
         other_call purpose plain fits forth is =
             let any : Running = record { operation = operations.Rom; act = 0; managed = None } in
-            let layer_is : t.1.layer ≡ J = ap (λ (x : Turn). x.1.layer) is ∙ (ended_leaves any ⊥ purpose ending empty_outbox (called here) plain (λ x. absurd x)).layer in
+            let left = ended_leaves any ⊥ purpose ending empty_outbox (called here) plain (λ x. absurd x) in
+            let layer_is : t.1.layer ≡ J = ap (λ (x : Turn). x.1.layer) is ∙ left.layer in
             plainly (ap (λ (l : Layer Purpose). l.peers) layer_is) (ap (λ (l : Layer Purpose). l.generation) layer_is) forth
             (λ r e k. (let l = ended_leaves r (Unit {0}) purpose ending empty_outbox (called here) plain (λ x. apart_fits r purpose k (subst (Fits purpose) e fits)) in
-            (ap (λ (x : Turn). x.1.operation) is ∙ l.operation tt e, sends_none (ap (λ (x : Turn). x.0.packets) is ∙ l.packets))))
+            ap (λ (x : Turn). x.1.operation) is ∙ l.operation tt e)) (sends_none (ap (λ (x : Turn). x.0.packets) is ∙ left.packets))
 
         pub ended_call : (purpose : Option Purpose) → IfFor (λ q. Fits q s.operation) purpose → Stands purpose → Ends purpose → t ≡ ended_for purpose ending empty_outbox (called here) → CallRom s t
         ended_call purpose fits forth gone is = by purpose fits forth gone is
@@ -291,7 +300,7 @@ module _ (ready : Bool) (i : ℕ) (s : InitiatorState) (own : IsCalled ready i s
                 pick (inr y) = absurd (never a y)
 
             by : (q : Option Purpose) → IfFor (λ p. Fits p s.operation) q → Stands q → Ends q → t ≡ ended_for q ending empty_outbox (called here) → CallRom s t
-            by None f g k e = plainly (ap (λ (x : Turn). x.1.layer.peers) e) (ap (λ (x : Turn). x.1.layer.generation) e) (stay None (λ a x. (let differ : None ≡ Some (purposes.Rom a) = x in cc)) g) (λ r o m. (ap (λ (x : Turn). x.1.operation) e ∙ o, sends_none (ap (λ (x : Turn). x.0.packets) e)))
+            by None f g k e = plainly (ap (λ (x : Turn). x.1.layer.peers) e) (ap (λ (x : Turn). x.1.layer.generation) e) (stay None (λ a x. (let differ : None ≡ Some (purposes.Rom a) = x in cc)) g) (λ r o m. ap (λ (x : Turn). x.1.operation) e ∙ o) (sends_none (ap (λ (x : Turn). x.0.packets) e))
             by (Some (purposes.Rom a)) f g k e = rom_call a (k a refl) e
             by (Some (purposes.Pointer list)) f g k e = other_call (purposes.Pointer list) refl f (stay (Some (purposes.Pointer list)) (λ a x. cc) g) e
             by (Some purposes.Doorbell) f g k e = other_call purposes.Doorbell refl f (stay (Some purposes.Doorbell) (λ a x. cc) g) e
@@ -327,10 +336,10 @@ module _ (ready : Bool) (i : ℕ) (s : InitiatorState) (own : IsCalled ready i s
     heard_target = (receive_left generation bytes s).target_is
 
     -- where it is no response
-    quietly : ((a : ℕ) → ClosedFor finding (Some (purposes.Rom a)) → ⊥) → (t : Turn) → heard_turn ≡ t → t.1.layer.peers ≡ heard_layer.peers → t.1.layer.generation ≡ heard_layer.generation → IfRom s (λ r. (t.1.operation ≡ Some r) × IsQuiet t) → CallRom s t
-    quietly none t is peers g rom =
-        plainly heard_layer called_heard valid_heard (judging_stays s.layer generation bytes) back_heard t (ap (λ (x : Turn). x.1.target) (sym is) ∙ heard_target) (λ r e k. was_heard r (ap (λ (x : Turn). x.1.operation) is ∙ e)) peers g
-        (λ n a x. forth n a (judge_goes s.layer s.target n (Some (purposes.Rom a)) called_layer x generation bytes)) rom
+    quietly : ((a : ℕ) → ClosedFor finding (Some (purposes.Rom a)) → ⊥) → (t : Turn) → heard_turn ≡ t → t.1.layer.peers ≡ heard_layer.peers → t.1.layer.generation ≡ heard_layer.generation → IfRom s (λ r. t.1.operation ≡ Some r) → IsQuiet t → CallRom s t
+    quietly none t is peers g rom quiet =
+        plainly heard_layer called_heard valid_heard (judging_stays s.layer generation bytes) back_heard t (ap (λ (x : Turn). x.1.target) (sym is) ∙ heard_target) (λ r e. was_heard r (ap (λ (x : Turn). x.1.operation) is ∙ e)) peers g
+        (λ n a x. forth n a (judge_goes s.layer s.target n (Some (purposes.Rom a)) called_layer x generation bytes)) rom quiet
       where
         forth : (n a : ℕ) → RomAt heard_layer s.target n a ⊎ ClosedFor finding (Some (purposes.Rom a)) → RomAt heard_layer s.target n a
         forth n a (inl y) = y
@@ -350,7 +359,7 @@ module _ (ready : Bool) (i : ℕ) (s : InitiatorState) (own : IsCalled ready i s
 
     responded : (p : Packet) (label : LabelParts) (purpose : Option Purpose) → finding ≡ of_response p label purpose → (t : Turn) → heard_turn ≡ t → t ≡ ended_for purpose (ending_of p) empty_outbox (called (record s { layer = heard_layer })) → CallRom s t
     responded p label purpose e t is e2 =
-        ended_call heard_layer called_heard valid_heard (judging_stays s.layer generation bytes) back_heard t (ap (λ (x : Turn). x.1.target) (sym is) ∙ heard_target) (λ r o k. was_heard r (ap (λ (x : Turn). x.1.operation) is ∙ o)) (ending_of p) purpose
+        ended_call heard_layer called_heard valid_heard (judging_stays s.layer generation bytes) back_heard t (ap (λ (x : Turn). x.1.target) (sym is) ∙ heard_target) (λ r o. was_heard r (ap (λ (x : Turn). x.1.operation) is ∙ o)) (ending_of p) purpose
         (fits_by purpose (subst (λ (y : Finding Purpose). IfFits y s) e (hears_fit ready i s own generation bytes)))
         (λ n a x. forth n a (judge_goes s.layer s.target n (Some (purposes.Rom a)) called_layer x generation bytes))
         (closed p label purpose e) e2
@@ -380,9 +389,9 @@ module _ (ready : Bool) (i : ℕ) (s : InitiatorState) (own : IsCalled ready i s
     again_stays p rcode u r o = o
 
     by_finding : (x : Finding Purpose × Layer Purpose) → judging_step s.layer generation bytes ≡ x → heard_turn ≡ (received x bytes empty_outbox s).1 → CallRom s (received x bytes empty_outbox s).1
-    by_finding (of_generation, l) e is = let k = ap (λ (y : Finding Purpose × Layer Purpose). y.1) e in quietly (closes_none of_generation l e (λ a x. x)) _ is (ap (λ (y : Layer Purpose). y.peers) (sym k)) (ap (λ (y : Layer Purpose). y.generation) (sym k)) (λ r o m. (o, sends_none refl))
-    by_finding (of_grammar, l) e is = let k = ap (λ (y : Finding Purpose × Layer Purpose). y.1) e in quietly (closes_none of_grammar l e (λ a x. x)) _ is (ap (λ (y : Layer Purpose). y.peers) (sym k)) (ap (λ (y : Layer Purpose). y.generation) (sym k)) (λ r o m. (o, sends_none refl))
-    by_finding (of_label, l) e is = let k = ap (λ (y : Finding Purpose × Layer Purpose). y.1) e in quietly (closes_none of_label l e (λ a x. x)) _ is (ap (λ (y : Layer Purpose). y.peers) (sym k)) (ap (λ (y : Layer Purpose). y.generation) (sym k)) (λ r o m. (o, sends_none refl))
+    by_finding (of_generation, l) e is = let k = ap (λ (y : Finding Purpose × Layer Purpose). y.1) e in quietly (closes_none of_generation l e (λ a x. x)) _ is (ap (λ (y : Layer Purpose). y.peers) (sym k)) (ap (λ (y : Layer Purpose). y.generation) (sym k)) (λ r o m. o) (sends_none refl)
+    by_finding (of_grammar, l) e is = let k = ap (λ (y : Finding Purpose × Layer Purpose). y.1) e in quietly (closes_none of_grammar l e (λ a x. x)) _ is (ap (λ (y : Layer Purpose). y.peers) (sym k)) (ap (λ (y : Layer Purpose). y.generation) (sym k)) (λ r o m. o) (sends_none refl)
+    by_finding (of_label, l) e is = let k = ap (λ (y : Finding Purpose × Layer Purpose). y.1) e in quietly (closes_none of_label l e (λ a x. x)) _ is (ap (λ (y : Layer Purpose). y.peers) (sym k)) (ap (λ (y : Layer Purpose). y.generation) (sym k)) (λ r o m. o) (sends_none refl)
     by_finding (of_response p label purpose, l) e is =
         responded p label purpose (ap (λ (y : Finding Purpose × Layer Purpose). y.0) e) _ is (ap (λ (y : Layer Purpose). ended_for purpose (ending_of p) empty_outbox (called (record s { layer = y }))) (sym (ap (λ (y : Finding Purpose × Layer Purpose). y.1) e)))
     by_finding (of_again p rcode, l) e is =
@@ -391,14 +400,14 @@ module _ (ready : Bool) (i : ℕ) (s : InitiatorState) (own : IsCalled ready i s
         let a = ignored_again p bytes empty_outbox u rcode in
         let same = answers_peers p _ l a.rcode a.given a.layer in
         quietly (closes_none (of_again p rcode) l e (λ a x. x)) _ is (same.0 ∙ ap (λ (y : Layer Purpose). y.peers) (sym k)) (same.1 ∙ ap (λ (y : Layer Purpose). y.generation) (sym k))
-        (λ r o m. (again_stays p rcode u r o, replied p l a.rcode a.given _ a.packets))
+        (λ r o m. again_stays p rcode u r o) (replied p l a.rcode a.given _ a.packets)
     by_finding (of_request p, l) e is =
         let k = ap (λ (y : Finding Purpose × Layer Purpose). y.1) e in
         let u : InitiatorState = record s { layer = l } in
         let a = request_answers bytes empty_outbox u orb p in
         let same = answers_peers p _ l a.rcode a.given a.layer in
         quietly (closes_none (of_request p) l e (λ a x. x)) _ is (same.0 ∙ ap (λ (y : Layer Purpose). y.peers) (sym k)) (same.1 ∙ ap (λ (y : Layer Purpose). y.generation) (sym k))
-        (λ r o m. (request_stays r (bare r (orb_of r o) m) bytes empty_outbox u o p, replied p l a.rcode a.given _ a.packets))
+        (λ r o m. request_stays r (bare r (orb_of r o) m) bytes empty_outbox u o p) (replied p l a.rcode a.given _ a.packets)
 
     pub heard_call : CallRom s heard_turn
     unfolding receive_step

@@ -33,7 +33,7 @@ use Rattle.sbp_journal.specs.declared.operation.Operation.{Operation}
 use Rattle.sbp_journal.specs.declared.operation.Operation.TheVariants as operations
 use Rattle.sbp_journal.specs.declared.side.Side.{Side}
 use Rattle.sbp_journal.specs.declared.side.Side.TheVariants as sides
-use Rattle.sbp_laws.specs.Hosts.{operation_of}
+use Rattle.sbp_laws.specs.Hosts.{Underway, host_at, operation_of}
 use Rattle.sbp_laws.specs.Turns.{event_of}
 use Rattle.sbp_world.specs.Handing.{handed_out}
 use Rattle.sbp_world.specs.Nodes.{told_seen, with_seen}
@@ -58,11 +58,13 @@ use Rattle.turn_laws.proofs.AnswerNotes.{SameBus}
 use Rattle.turn_laws.proofs.Calls.{IsCalling, calls_nodes}
 use Rattle.turn_laws.proofs.Handed.{handed, notes_told, onto}
 use Rattle.turn_laws.proofs.Places.{HasPairs, Place}
-use Rattle.turn_laws.proofs.RomCalls.{ActRom, act_other, act_quiet, late_call, other_act, rom_act, seen_rom}
+use Rattle.turn_laws.proofs.RomCalls.{ActRom, After, act_after, act_other, act_quiet, late_call, other_act, rom_act, seen_rom}
 use Rattle.turn_laws.proofs.RomEnds.{is_plain}
 use Rattle.turn_laws.proofs.RomLabels.{CallRom, heard_call}
 use Rattle.turn_laws.proofs.RomTerms.{Keeps, keeps_note}
-use Rattle.turn_laws.proofs.RomTies.{RomOf, act_ties, own_ties, rom_keeps, rom_ties}
+use Rattle.sbp_world.proofs.Lists.ManageSees.{none_later}
+use Rattle.sbp_world.specs.Hosts.Core.{Core, operation_by, work_in, work_of}
+use Rattle.turn_laws.proofs.RomTies.{IsFirst, RomOf, act_ties, first_keeps, own_ties, rom_keeps, rom_ties}
 
 -- ---- what an initiator tells leaves which packets were injected
 note_injected : (note : Note) (t : Terms) → IsNoRun note → (noted note t).injected ≡ t.injected
@@ -123,6 +125,11 @@ pub action_is : (action : Action) → is_rom_action action ≡ true → action �
 action_is actions.Rom e = refl
 action_is action e = untrue e
 
+-- the terms have no operation where the machine has none
+no_work : (u : Option Underway) → work_of u ≡ work_in None → IsFirst u
+no_work None w = tt
+no_work (Some u) w = absurd (let no : Some u.operation ≡ None = ap operation_by w in cc)
+
 -- ---- at a place
 -- the generation that the bus has for an initiator is its own
 place_generation : (units ready : ℕ) (start : List Disk) (past : List Moment) (s : Scene) → Place units ready start past s → (i : ℕ) → i < length s.world.initiators → (topology_at s.world.generations (suc i)).generation ≡ (initiator_at s.world i).layer.generation
@@ -175,6 +182,9 @@ module _ (units ready : ℕ) (start : List Disk) (past : List Moment) (s : Scene
 
     other_call : is_rom_action action ≡ false → ActRom old t
     other_call e = subst (ActRom old) its_turn (other_act pairs.ready i old aimed.own.called aimed.aims valid small h.one action (plain e) (apart e) done_is sends)
+
+    act_after_of : is_rom_action action ≡ false → (r : Running) → t.1.operation ≡ Some r → After action old r
+    act_after_of e r f = act_after pairs.ready i old aimed.own.called aimed.aims valid small h.one action (plain e) (apart e) done_is r (ap (λ (x : Turn). x.1.operation) its_turn ∙ f)
 
     -- a ROM that is under way behind another one was so before
     pub act_was : is_rom_action action ≡ false → (r : Running) → t.1.operation ≡ Some r → r.operation ≡ operations.Rom → old.operation ≡ Some r
@@ -244,6 +254,9 @@ module _ (units ready : ℕ) (start : List Disk) (past : List Moment) (s : Scene
             by None f g = same_operation action ∙ f
             by (Some operation) f g = none_is r (sym g ∙ e)
 
+        bare : old.operation ≡ None → IsFirst (host_at (hist then v) i).operation
+        bare e = first_keeps (host_at ms i) (host_at (hist then v) i) keeps.operation (no_work (host_at ms i).operation (ap (λ (x : Core). x.work) (here.cores i inside) ∙ ap work_in e))
+
         by_action : (b : Bool) → is_rom_action action ≡ b → RomOf now i t.1
         by_action true e =
             let is = action_is action e in
@@ -253,6 +266,7 @@ module _ (units ready : ℕ) (start : List Disk) (past : List Moment) (s : Scene
             (λ r f. none_is r (sym (act_allowed actions.Rom old rom_done).free ∙ f))
         by_action false e =
             act_ties then i old t weight v own there honest generation_is kept action act_line free (subst (λ (x : Turn). AreRequests old.target x.0.packets) (its_turn action t turn_is) (sends action t turn_is))
+            (λ r f. act_after_of action t turn_is e r f) bare
             (other_call action t turn_is e)
 
         pub act_roms : RomOf now i t.1
@@ -274,6 +288,7 @@ module _ (units ready : ℕ) (start : List Disk) (past : List Moment) (s : Scene
           record {
             one = seen_rom pairs.ready g.generation (id_of g (suc i)) (id_of g 0) ms i old flag aimed e;
             kind = λ n a y. absurd (none_seen pairs.ready g.generation (id_of g (suc i)) (id_of g 0) ms i old flag aimed e _ n (Some (purposes.Rom a)) y);
+            still = λ r f other. none_is r (sym (none_later g.generation (id_of g (suc i)) (id_of g 0) old e) ∙ f);
             tie = λ n a y u f. absurd (none_seen pairs.ready g.generation (id_of g (suc i)) (id_of g 0) ms i old flag aimed e _ n (Some (purposes.Rom a)) y);
           }
       by false e = subst IsSeen (sym (see_old g.generation (id_of g (suc i)) (id_of g 0) old e)) (rom_keeps ms (said (notes.Seen (suc i) g.generation) ∷ ms) i old (keeps_note i (notes.Seen (suc i) g.generation) ms refl) h)

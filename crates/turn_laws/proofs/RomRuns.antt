@@ -283,6 +283,7 @@ first_rom past i ready = record {
   };
   tie = λ n a x u e. absurd (first_unread i n a ready x);
   kind = λ n a x. absurd (first_unread i n a ready x);
+  still = λ r e other. none_is r (sym (first_none i ready) ∙ e);
 }
 
 pub first_roms : Begins Carried

@@ -16,6 +16,7 @@ use Rattle.sbp_journal.specs.declared.event.Action.{Action}
 use Rattle.sbp_journal.specs.declared.event.Action.TheVariants as actions
 use Rattle.sbp_journal.specs.declared.event.Event.TheVariants as events
 use Rattle.sbp_journal.specs.declared.operation.Operation.{Operation}
+use Rattle.sbp_journal.specs.declared.operation.Operation.TheVariants as operations
 use Rattle.sbp_journal.specs.declared.note.Note.{Note}
 use Rattle.sbp_journal.specs.declared.note.Note.TheVariants as notes
 use Rattle.sbp_journal.specs.declared.outbox.Outgoing.{Outgoing}
@@ -34,10 +35,18 @@ use Rattle.sbp_world.proofs.Hosts.Cores.{wire_is}
 use Rattle.sbp_world.proofs.Hosts.Held.{sent_apart, sent_begun}
 use Rattle.sbp_world.proofs.Hosts.Requested.{AreRequests}
 use Rattle.turn_laws.proofs.Handed.{handed, notes_sent, notes_told, onto, onto_both, packet_note}
-use Rattle.turn_laws.proofs.RomCalls.{ActRom, LeavesRom, act_other, act_quiet}
+use Rattle.turn_laws.proofs.RomCalls.{ActRom, After, LeavesRom, act_other, act_quiet, begun, went_on}
 use Rattle.turn_laws.proofs.RomLabels.{CallRom, IsQuiet, OneRom, RomAt, reads, sends_none, sends_reply, stays}
 use Rattle.turn_laws.proofs.RomTerms.{Keeps, NoneMine, Stays, asked_latest, begun_current, is_mine, keeps_reply, keeps_rest, keeps_then, sent_current}
 use Rattle.sbp_world.proofs.Lists.ManageFirsts.{so_if}
+
+-- an operation that is no ROM sends one request
+abbrev pub IsFirst : Option Underway → Type 0
+IsFirst None = Unit {0}
+IsFirst (Some u) = u.latest ≡ u.first
+
+abbrev OneSent : List Moment → ℕ → InitiatorState → Type 0
+OneSent past i s = (r : Running) → s.operation ≡ Some r → (r.operation ≡ operations.Rom → ⊥) → IsFirst (host_at past i).operation
 
 abbrev pub IsQuad : Terms → Transaction → Type 0
 IsQuad t u = (kind : Kind) (serial : ℕ) → t.held u ≡ waits kind serial → kind ≡ reading_quadlet
@@ -47,12 +56,18 @@ pub record RomOf (past : List Moment) (i : ℕ) (s : InitiatorState) : Type 0 wh
   pub tie : (n a : ℕ) → RomAt s.layer s.target n a → (u : Underway) → (host_at past i).operation ≡ Some u → (terms past).current (transaction s.layer.generation (suc i) 0 n) ≡ u.latest
   -- it waits for a quadlet
   pub kind : (n a : ℕ) → RomAt s.layer s.target n a → IsQuad (terms past) (transaction s.layer.generation (suc i) 0 n)
+  pub still : OneSent past i s
+
+pub first_keeps : (old new : Host) → Stays old new → IsFirst old.operation → IsFirst new.operation
+first_keeps old new (inl e) h = subst IsFirst (sym e) h
+first_keeps old new (inr e) h = subst IsFirst (sym e) tt
 
 pub rom_keeps : (past now : List Moment) (i : ℕ) (s : InitiatorState) → Keeps i past now → RomOf past i s → RomOf now i s
 rom_keeps past now i s k h = record {
   one = h.one;
   tie = λ n a x u e. by n a x u e k.operation;
   kind = λ n a x kind serial w. h.kind n a x kind serial (k.waited s.layer.generation n kind serial w);
+  still = λ r e other. first_keeps (host_at past i) (host_at now i) k.operation (h.still r e other);
 }
   where
     by : (n a : ℕ) → RomAt s.layer s.target n a → (u : Underway) → (host_at now i).operation ≡ Some u → Stays (host_at past i) (host_at now i) → (terms now).current (transaction s.layer.generation (suc i) 0 n) ≡ u.latest
@@ -95,6 +110,34 @@ acted_keeps (actions.Append cmd) list serial host = by host.pointer
     by (Some first) = refl
 acted_keeps action list serial host = refl
 
+acted_first : (action : Action) (list : Option ℕ) (serial : ℕ) (host : Host) → IsFirst host.operation → IsFirst (acted action (operation_of action) list serial host).operation
+acted_first actions.Rom list serial host h = refl
+acted_first (actions.Login unit reconnect exclusive password) list serial host h = refl
+acted_first (actions.Query unit) list serial host h = refl
+acted_first actions.Reconnect list serial host h = refl
+acted_first actions.Logout list serial host h = refl
+acted_first (actions.Abort k) list serial host h = refl
+acted_first actions.AbortSet list serial host h = refl
+acted_first actions.UnitReset list serial host h = refl
+acted_first actions.TargetReset list serial host h = refl
+acted_first actions.AgentReset list serial host h = refl
+acted_first actions.Enable list serial host h = refl
+acted_first action list serial host h = subst IsFirst (sym (acted_keeps action list serial host)) h
+
+acted_begins : (action : Action) (operation : Operation) → operation_of action ≡ Some operation → (list : Option ℕ) (serial : ℕ) (host : Host) → IsFirst (acted action (operation_of action) list serial host).operation
+acted_begins actions.Rom operation e list serial host = refl
+acted_begins (actions.Login unit reconnect exclusive password) operation e list serial host = refl
+acted_begins (actions.Query unit) operation e list serial host = refl
+acted_begins actions.Reconnect operation e list serial host = refl
+acted_begins actions.Logout operation e list serial host = refl
+acted_begins (actions.Abort k) operation e list serial host = refl
+acted_begins actions.AbortSet operation e list serial host = refl
+acted_begins actions.UnitReset operation e list serial host = refl
+acted_begins actions.TargetReset operation e list serial host = refl
+acted_begins actions.AgentReset operation e list serial host = refl
+acted_begins actions.Enable operation e list serial host = refl
+acted_begins action operation e list serial host = none_is operation e
+
 either : (b : Bool) (x y : Host) → x.operation ≡ y.operation → (cond b x y).operation ≡ y.operation
 either true x y e = e
 either false x y e = refl
@@ -121,18 +164,19 @@ module _ (action : Action) (mid : List Moment) (i serial generation to label : �
       either ((nat_eq (suc i) (suc i)) && not ((known_host mid i).wire.injected serial)) (sent_as (part_of bytes) (event_of mid) i (present_list mid i) serial host) host
       (ap (λ (h : Host). h.operation) sent_is ∙ ap (λ o. (acts_as o).operation) none ∙ acted_keeps action (present_list mid i) serial host)
 
+  acts_now : (terms mid).injected serial ≡ false → host_at (said (notes.Sent serial generation (suc i) to bytes) ∷ mid) i ≡ acts_as (operation_of action)
+  acts_now honest =
+      let own : (known_host mid i).wire.injected serial ≡ false = ap (λ (t : Terms). t.injected serial) (wire_is mid i) ∙ honest in
+      so_if ((nat_eq (suc i) (suc i)) && not ((known_host mid i).wire.injected serial)) (sent_as (part_of bytes) (event_of mid) i (present_list mid i) serial host) host
+      (ap (λ b. b && not ((known_host mid i).wire.injected serial)) (same_number (suc i)) ∙ ap not own)
+      ∙ sent_is
+
   act_latest : action ≡ actions.Rom → (terms mid).injected serial ≡ false → (u : Underway) → (host_at (said (notes.Sent serial generation (suc i) to bytes) ∷ mid) i).operation ≡ Some u → u.latest ≡ serial
   unfolding latest_in
-  act_latest is honest u e = ap (latest_in serial) (sym e ∙ ap (λ (h : Host). h.operation) now_is) ∙ ap (λ a. latest_in serial (acted a (operation_of a) (present_list mid i) serial host).operation) is
-    where
-      own : (known_host mid i).wire.injected serial ≡ false
-      own = ap (λ (t : Terms). t.injected serial) (wire_is mid i) ∙ honest
+  act_latest is honest u e = ap (latest_in serial) (sym e ∙ ap (λ (h : Host). h.operation) (acts_now honest)) ∙ ap (λ a. latest_in serial (acted a (operation_of a) (present_list mid i) serial host).operation) is
 
-      now_is : host_at (said (notes.Sent serial generation (suc i) to bytes) ∷ mid) i ≡ acts_as (operation_of action)
-      now_is =
-          so_if ((nat_eq (suc i) (suc i)) && not ((known_host mid i).wire.injected serial)) (sent_as (part_of bytes) (event_of mid) i (present_list mid i) serial host) host
-          (ap (λ b. b && not ((known_host mid i).wire.injected serial)) (same_number (suc i)) ∙ ap not own)
-          ∙ sent_is
+  act_first : (terms mid).injected serial ≡ false → IsFirst (acts_as (operation_of action)).operation → IsFirst (host_at (said (notes.Sent serial generation (suc i) to bytes) ∷ mid) i).operation
+  act_first honest h = subst (λ (x : Host). IsFirst x.operation) (sym (acts_now honest)) h
 
 -- ---- a call of it: `v` is the world behind its first note
 module _ (past : List Moment) (i : ℕ) (s : InitiatorState) (t : Turn) (weight : ℕ) (v : WorldState) (own : AreOwn t.0.sides) where
@@ -245,41 +289,63 @@ module _ (past : List Moment) (i : ℕ) (s : InitiatorState) (t : Turn) (weight 
     pub own_ties : IsNoAct i (event_of mid) → CallRom s t → RomOf now i t.1
     own_ties line (stays back g was quiet one) = record {
       one = one;
-      tie = λ n a x u e. (let k = one.runs n a x in rom_stays base now i s t.1 (quiet_keeps (quiet k.running (was k.running k.is k.kind) k.kind)) back g h n a x u e);
-      kind = λ n a x. (let k = one.runs n a x in kind_stays base now i s t.1 (quiet_keeps (quiet k.running (was k.running k.is k.kind) k.kind)) back g h n a x);
+      tie = rom_stays base now i s t.1 (quiet_keeps quiet) back g h;
+      kind = kind_stays base now i s t.1 (quiet_keeps quiet) back g h;
+      still = λ r e other. first_keeps (host_at base i) (host_at now i) (quiet_keeps quiet).operation (h.still r (was r e) other);
     }
-    own_ties line (reads asked a sent part at only one) =
+    own_ties line (reads asked a sent part at only rom one) =
         let p = outgoing s.target asked in
         record {
           one = one;
           tie = λ n b x u e. latest_tie p sent refl reading_quadlet part (asked_latest i serial generation 0 asked.label.number reading_quadlet asked.bytes mid part honest line) n (only n b x) u e;
           kind = λ n b x. latest_kind p sent refl reading_quadlet part refl n (only n b x);
+          still = λ r e other. absurd (other (rom r e));
         }
 
     module _ (action : Action) (line : event_of mid ≡ Some (events.Act i action)) where
+      first_before : (s.operation ≡ None → IsFirst (host_at base i).operation) → (r : Running) → (r.operation ≡ operations.Rom → ⊥) → After action s r → IsFirst (host_at base i).operation
+      first_before bare r other (went_on e) = h.still r e other
+      first_before bare r other (begun operation f e) = bare e
+
+      first_acts : (r : Running) → (r.operation ≡ operations.Rom → ⊥) → After action s r → IsFirst (acted action (operation_of action) (present_list mid i) serial (host_at mid i)).operation
+      first_acts r other (went_on e) = acted_first action (present_list mid i) serial (host_at mid i) (first_keeps (host_at base i) (host_at mid i) keeps_mid.operation (h.still r e other))
+      first_acts r other (begun operation f e) = acted_begins action operation f (present_list mid i) serial (host_at mid i)
+
       -- in one that begins no ROM
-      pub act_ties : ((r : Running) → s.operation ≡ Some r → operation_of action ≡ None) → AreRequests s.target t.0.packets → ActRom s t → RomOf now i t.1
-      act_ties free asks (act_quiet l e) = record { one = l.one; tie = rom_stays base now i s t.1 (quiet_keeps (sends_none e)) l.back l.generation h; kind = kind_stays base now i s t.1 (quiet_keeps (sends_none e)) l.back l.generation h }
-      act_ties free asks (act_other l asked p e label_is other) =
+      pub act_ties : ((r : Running) → s.operation ≡ Some r → operation_of action ≡ None) → AreRequests s.target t.0.packets → ((r : Running) → t.1.operation ≡ Some r → After action s r) → (s.operation ≡ None → IsFirst (host_at base i).operation) → ActRom s t → RomOf now i t.1
+      act_ties free asks after bare (act_quiet l e) =
+          let k = quiet_keeps (sends_none e) in
+          record {
+            one = l.one;
+            tie = rom_stays base now i s t.1 k l.back l.generation h;
+            kind = kind_stays base now i s t.1 k l.back l.generation h;
+            still = λ r f other. first_keeps (host_at base i) (host_at now i) k.operation (first_before bare r other (after r f));
+          }
+      act_ties free asks after bare (act_other l asked p e label_is other) =
           let r : AreRequests s.target (p ∷ []) = subst (AreRequests s.target) e asks in
           let k = r.1 in
           record {
             one = l.one;
             tie = λ n a x u f. (let c = l.one.runs n a x in other_tie p e r.0 k.kind k.part l (act_stays action mid i serial generation 0 (number_in p.label) k.kind p.bytes k.part line (free c.running (l.was c.running c.is c.kind))) n a x (λ z. other n a x (z ∙ ap number_in label_is)) u f);
             kind = λ n a x. other_kind p e r.0 k.kind k.part l n a x (λ z. other n a x (z ∙ ap number_in label_is));
+            still = λ x f no.
+                subst (λ ms. IsFirst (host_at ms i).operation) (sym (is p e r.0 k.kind k.part))
+                (act_first action mid i serial generation 0 (number_in p.label) k.kind p.bytes k.part line honest (first_acts x no (after x f)));
           }
 
       -- and in one that does
       pub rom_ties : action ≡ actions.Rom → CallRom s t → ((r : Running) → s.operation ≡ Some r → ⊥) → RomOf now i t.1
       rom_ties rom (stays back g was quiet one) none = record {
         one = one;
-        tie = λ n a x u e. (let k = one.runs n a x in absurd (none k.running (was k.running k.is k.kind)));
-        kind = λ n a x. (let k = one.runs n a x in absurd (none k.running (was k.running k.is k.kind)));
+        tie = λ n a x u e. (let k = one.runs n a x in absurd (none k.running (was k.running k.is)));
+        kind = λ n a x. (let k = one.runs n a x in absurd (none k.running (was k.running k.is)));
+        still = λ r e other. absurd (none r (was r e));
       }
-      rom_ties rom (reads asked a sent part at only one) none =
+      rom_ties rom (reads asked a sent part at only runs one) none =
           let p = outgoing s.target asked in
           record {
             one = one;
             tie = λ n b x u e. latest_tie p sent refl reading_quadlet part (act_latest action mid i serial generation 0 asked.label.number reading_quadlet asked.bytes part line rom honest) n (only n b x) u e;
             kind = λ n b x. latest_kind p sent refl reading_quadlet part refl n (only n b x);
+            still = λ r e other. absurd (other (runs r e));
           }

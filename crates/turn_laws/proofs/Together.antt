@@ -1,5 +1,6 @@
 -- The laws of turns of every run, together.
 use Rattle.turn_laws.specs.Together.{TurnsLaw}
+use Rattle.turn_laws.proofs.AbortedRuns.{aborted_law}
 use Rattle.turn_laws.proofs.Aborts.{aborts_law}
 use Rattle.turn_laws.proofs.AnswerRuns.{answered_law}
 use Rattle.turn_laws.proofs.Asked.{asked_law}
@@ -15,10 +16,11 @@ use Rattle.turn_laws.proofs.Ends.{ends_law}
 use Rattle.turn_laws.proofs.Faults.{faults_law}
 use Rattle.turn_laws.proofs.Judgements.{judgement_run_law}
 use Rattle.turn_laws.proofs.LoginRuns.{login_run_law}
+use Rattle.turn_laws.proofs.PushSent.{told_sent_law}
 use Rattle.turn_laws.proofs.PushTold.{push_told_law}
 use Rattle.turn_laws.proofs.Pushes.{pushes_law}
 use Rattle.turn_laws.proofs.Once.{once_law}
-use Rattle.turn_laws.proofs.OwnCases.{reads_end_law}
+use Rattle.turn_laws.proofs.OwnCases.{operations_law}
 use Rattle.turn_laws.proofs.Requests.{requests_run_law}
 use Rattle.turn_laws.proofs.RomRuns.{after_law}
 use Rattle.turn_laws.proofs.RunEnds.{runs_end_law}
@@ -49,6 +51,7 @@ turns_law = record {
     deaths = deaths_law.after_lines line run is some most size;
     codes = codes_law.after_lines line run is some most size;
     aborts = aborts_law.after_lines line run is some most size;
+    aborted = aborted_law.after_lines line run is some most size;
     silent = silent_law.after_lines line run is some most size;
     unserved = unserved_law.after_lines line run is some most size;
     faults = faults_law.after_lines line run is some most size;
@@ -59,7 +62,8 @@ turns_law = record {
     pushes = pushes_law.after_lines line run is some most size;
     told = told_law.after_lines line run is some most size;
     pushes_told = push_told_law.after_lines line run is some most size;
-    operations = reads_end_law.after_lines line run is some most size;
+    told_sent = told_sent_law.after_lines line run is some most size;
+    operations = operations_law.after_lines line run is some most size;
   };
   between = λ line run is some most size next deliveries told may. record {
     judgement = judgement_run_law.between line run is some most size next deliveries told may;
@@ -80,6 +84,7 @@ turns_law = record {
     deaths = deaths_law.between line run is some most size next deliveries told may;
     codes = codes_law.between line run is some most size next deliveries told may;
     aborts = aborts_law.between line run is some most size next deliveries told may;
+    aborted = aborted_law.between line run is some most size next deliveries told may;
     silent = silent_law.between line run is some most size next deliveries told may;
     unserved = unserved_law.between line run is some most size next deliveries told may;
     faults = faults_law.between line run is some most size next deliveries told may;
@@ -90,6 +95,7 @@ turns_law = record {
     pushes = pushes_law.between line run is some most size next deliveries told may;
     told = told_law.between line run is some most size next deliveries told may;
     pushes_told = push_told_law.between line run is some most size next deliveries told may;
-    operations = reads_end_law.between line run is some most size next deliveries told may;
+    told_sent = told_sent_law.between line run is some most size next deliveries told may;
+    operations = operations_law.between line run is some most size next deliveries told may;
   };
 }

@@ -46,7 +46,7 @@ packet_asks (read_block_response header rcode payload) access e = absurd (let no
 packet_asks (lock header offset extended payload) access e = record { label = _; kind = _; is = refl }
 packet_asks (lock_response header rcode extended payload) access e = absurd (let no : None ≡ Some access = e in cc)
 
-bytes_ask : (bytes : List ℕ) (access : Access) → access_in_bytes bytes ≡ Some access → IsAsking (part_of bytes)
+pub bytes_ask : (bytes : List ℕ) (access : Access) → access_in_bytes bytes ≡ Some access → IsAsking (part_of bytes)
 unfolding part_of
 bytes_ask bytes access e = by (reading bytes) e
   where

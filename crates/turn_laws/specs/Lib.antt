@@ -14,6 +14,7 @@ pub mod Silent
 pub mod Statuses
 pub mod Aborts
 pub mod AbortOwners
+pub mod Aborted
 pub mod Unserved
 pub mod Ordered
 pub mod Logins
@@ -39,3 +40,5 @@ pub mod OtherRequests
 pub mod Told
 pub mod PushTold
 pub mod Requests
+pub mod LawfulRuns
+pub mod PushSent

@@ -9,6 +9,7 @@ use Rattle.sbp_laws.specs.JudgementLaw.{JudgementLaw}
 use Rattle.sbp_laws.specs.LoginLaw.{LoginLaw}
 use Rattle.sbp_laws.specs.SentLaw.{SentLaw}
 use Rattle.sbp_laws.specs.Turns.{EachTurn}
+use Rattle.turn_laws.specs.Aborted.{AbortsAsNamed}
 use Rattle.turn_laws.specs.Cleared.{ClearsWhereDue}
 use Rattle.turn_laws.specs.Codes.{EndsWithCodes}
 use Rattle.turn_laws.specs.Cuts.{CutsWhereDue}
@@ -18,8 +19,9 @@ use Rattle.turn_laws.specs.Failures.{FailsWhereDue}
 use Rattle.turn_laws.specs.Ends.{EndsWhereDue}
 use Rattle.turn_laws.specs.Faults.{DiesBeforeFaults}
 use Rattle.turn_laws.specs.Once.{DiesOnce}
+use Rattle.turn_laws.specs.PushSent.{TellsTheCalm}
 use Rattle.turn_laws.specs.PushTold.{TellsPushes}
-use Rattle.turn_laws.specs.Operations.{StandsWhereReadsEnd}
+use Rattle.turn_laws.specs.Operations.{OperationsHold}
 use Rattle.turn_laws.specs.Pushes.{PushesWhereDue}
 use Rattle.turn_laws.specs.Runs.{OfEveryRun}
 use Rattle.turn_laws.specs.Silent.{EndsHeard}
@@ -37,6 +39,7 @@ pub record LawfulInTurns (start : List Disk) (past : List Moment) : Type 0 where
   pub deaths : EachTurn (DiesByRows start) past
   pub codes : EachTurn (EndsWithCodes start) past
   pub aborts : EachTurn (AbortsStand start) past
+  pub aborted : AbortsAsNamed start past
   pub silent : EachTurn (EndsHeard start) past
   pub unserved : EachTurn (UnservedWhereTold start) past
   pub faults : EachTurn DiesBeforeFaults past
@@ -47,7 +50,8 @@ pub record LawfulInTurns (start : List Disk) (past : List Moment) : Type 0 where
   pub pushes : EachTurn (PushesWhereDue start) past
   pub told : EachTurn (TellsByRow start) past
   pub pushes_told : EachTurn (TellsPushes start) past
-  pub operations : EachTurn StandsWhereReadsEnd past
+  pub told_sent : EachTurn (TellsTheCalm start) past
+  pub operations : EachTurn OperationsHold past
 
 abbrev pub TurnsLaw : Type 0
 TurnsLaw = OfEveryRun LawfulInTurns

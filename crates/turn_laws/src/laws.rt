@@ -1,5 +1,6 @@
 //! The laws of turns, each of every run of the machine of up to four initiators with one to four units.
 ghost use Rattle.turn_laws.specs.AbortOwners.{AbortOwnersLaw};
+ghost use Rattle.turn_laws.specs.Aborted.{AbortedLaw};
 ghost use Rattle.turn_laws.specs.Aborts.{AbortsLaw};
 ghost use Rattle.turn_laws.specs.ActEntries.{ActionRunLaw};
 ghost use Rattle.turn_laws.specs.Actions.{ActionsLaw};
@@ -18,13 +19,15 @@ ghost use Rattle.turn_laws.specs.Failing.{FailingLaw};
 ghost use Rattle.turn_laws.specs.Failures.{FailuresLaw};
 ghost use Rattle.turn_laws.specs.Faults.{FaultsLaw};
 ghost use Rattle.turn_laws.specs.Judgement.{JudgementRunLaw};
+ghost use Rattle.turn_laws.specs.LawfulRuns.{LawfulRunsLaw};
 ghost use Rattle.turn_laws.specs.Login.{LoginRunLaw};
 ghost use Rattle.turn_laws.specs.Once.{OnceLaw};
-ghost use Rattle.turn_laws.specs.Operations.{ReadsEndLaw};
+ghost use Rattle.turn_laws.specs.Operations.{OperationsLaw};
 ghost use Rattle.turn_laws.specs.Ordered.{OrderedLaw};
 ghost use Rattle.turn_laws.specs.Packets.{PacketsLaw};
 ghost use Rattle.turn_laws.specs.Requests.{RequestsRunLaw};
 ghost use Rattle.turn_laws.specs.RunsEnd.{RunsEndLaw};
+ghost use Rattle.turn_laws.specs.PushSent.{ToldSentLaw};
 ghost use Rattle.turn_laws.specs.PushTold.{PushToldLaw};
 ghost use Rattle.turn_laws.specs.Pushes.{PushesLaw};
 ghost use Rattle.turn_laws.specs.Silent.{SilentLaw};
@@ -120,6 +123,15 @@ pub fn orbs_abort_where_due()
 #[tactic(auto, using(crate::proofs::AbortOwners::abort_owners_law))]
 pub fn aborts_are_of_owners()
     ensures { AbortOwnersLaw }
+{}
+
+/// In every run in which no initiator injected packets, or few logins were given, an ORB of an initiator that injected
+/// none ends as aborted only where an abort of it stands before: an `mgmt` of this initiator, an abort with 00, whose
+/// management ORB, as the target got it, has the address by which that ORB was named then, which had neither run nor
+/// ended: `aborted` of the cause law.
+#[tactic(auto, using(crate::proofs::AbortedRuns::aborted_law))]
+pub fn aborts_end_what_they_named()
+    ensures { AbortedLaw }
 {}
 
 /// In each turn of every run, whatever anybody injected, an end of an ORB has its status write, or a death beside
@@ -232,15 +244,18 @@ pub fn failures_have_rows()
     ensures { FailingLaw }
 {}
 
-/// In each turn in which no transaction of an initiator ends but a read of a ROM or of AGENT_STATE, whatever anybody
-/// injected, `op`, `drop` and `stuck` stand exactly where the rules of an initiator say. An operation ends by the
-/// status block of its management ORB, with its list where it ends lists. A `rom` operation ends by the answer to its
-/// latest read, with the ROM that it read or with an error, or as that read lapses. A read of AGENT_STATE ends with the
-/// state or with an error, and RESET drops the list that it says something of. A reset that an initiator sees ends its
-/// operation and its reads of AGENT_STATE, in the order of their lines, and drops its list.
-#[tactic(auto, using(crate::proofs::OwnCases::reads_end_law))]
+/// In each turn, whatever anybody injected, `op`, `drop` and `stuck` stand exactly where the rules of an initiator say;
+/// `stuck` alone not where an initiator gets conflict_error for a write of its own to MANAGEMENT_AGENT that is of no
+/// operation of management, and injected packets, or others did in a run where more than few logins were given. An
+/// operation ends by the status block of its management ORB, with its list where it ends lists, or with an error as its
+/// write is refused or lapses; an AGENT_RESET and an `enable` by the answer to their writes. A `rom` operation ends by
+/// the answer to its latest read, with the ROM that it read or with an error, or as that read lapses. A read of
+/// AGENT_STATE ends with the state or with an error, and RESET drops the list that it says something of. A session
+/// becomes stuck where a write of its own is refused or lapses. A reset that an initiator sees ends its operation and
+/// its reads of AGENT_STATE, in the order of their lines, and drops its list.
+#[tactic(auto, using(crate::proofs::OwnCases::operations_law))]
 pub fn statuses_and_resets_end_operations()
-    ensures { ReadsEndLaw }
+    ensures { OperationsLaw }
 {}
 
 /// Behind each turn of every run, whatever anybody injected, an agent that is ACTIVE has its main request under way,
@@ -307,6 +322,14 @@ pub fn unsolicited_statuses_are_told()
     ensures { PushToldLaw }
 {}
 
+/// In each turn of every run in which an initiator that injected no packets gets one, where no other injected any or few
+/// logins were given, `told` stands exactly where the target sent this packet as an unsolicited status, once, for this
+/// initiator: `told` of the media law. What agents and the management write to it besides is no unsolicited status.
+#[tactic(auto, using(crate::proofs::PushSent::told_sent_law))]
+pub fn what_is_told_was_sent_so()
+    ensures { ToldSentLaw }
+{}
+
 /// In each turn of every run, whatever anybody injected, behind its response exactly those requests are sent that an
 /// agent, the management operation, a load, an initiator's action or its read of a ROM has in it and finds a label for, in
 /// this order, and no more: each with the next serial, in its sender's generation, to its node, and spelled canonically
@@ -322,4 +345,14 @@ pub fn requests_are_sent_where_due()
 #[tactic(auto, using(crate::proofs::Asked::asked_law))]
 pub fn requests_are_asked_for()
     ensures { AskedLaw }
+{}
+
+/// Every run of up to four initiators with one to four units, whose notes are inside their types, is lawful where nobody
+/// injected a packet: all laws together hold of its journal, of everybody (`whole`). And where some did while few logins
+/// were given, its parts hold as they stand here: the once law and the laws of lists of those that injected none, and all
+/// other laws of everybody but for three sentences, which are false of one that injects: `aborted`, `told`, and `stuck`
+/// where MANAGEMENT_AGENT answers conflict_error.
+#[tactic(auto, using(crate::proofs::LawfulRuns::lawful_runs_law))]
+pub fn runs_are_lawful()
+    ensures { LawfulRunsLaw }
 {}
