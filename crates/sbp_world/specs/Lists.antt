@@ -87,3 +87,6 @@ pub mod DataSequences
 pub mod DataServes
 pub mod DataWhole
 pub mod AnswersTold
+pub mod LoginUnits
+pub mod PlainStatuses
+pub mod UnitLines

@@ -59,6 +59,9 @@ ghost use Rattle.sbp_world.specs.Lists.Managing.{ManagingLaw};
 ghost use Rattle.sbp_world.specs.Lists.OneUp.{OneUpLaw};
 ghost use Rattle.sbp_world.specs.Lists.Opened.{LogoutsLaw};
 ghost use Rattle.sbp_world.specs.Lists.LawfulLists.{ListsLaw};
+ghost use Rattle.sbp_world.specs.Lists.LoginUnits.{LoginUnitsLaw, RunUnitsLaw};
+ghost use Rattle.sbp_world.specs.Lists.UnitLines.{OneUnitLaw};
+ghost use Rattle.sbp_world.specs.Lists.PlainStatuses.{NoneAbortedLaw, NoneDummyLaw};
 ghost use Rattle.sbp_world.specs.Lists.SendsLast.{SendsLastLaw};
 ghost use Rattle.sbp_world.specs.Lists.LetsGo.{MainStaysLaw, NobodyWaitsLaw};
 ghost use Rattle.sbp_world.specs.Lists.NobodyGots.{NobodyAsGotLaw};
@@ -707,4 +710,41 @@ pub fn requests_of_nobody_were_cut_off()
 #[tactic(auto, using(crate::proofs::Lists::Clauses::nobody_as_got))]
 pub fn answers_to_nobody_begin_elsewhere()
     ensures { NobodyAsGotLaw }
+{}
+
+/// In every run in which no initiator injected packets each login of the target is on a unit that a `login` line of some initiator asked
+/// for, or on unit 0, where the initiators begin logged in. Where few logins were given, each live login of an initiator that injected
+/// none is on a unit that this one asked for. After every line, and behind each delivery of a line that delivers one packet after the
+/// other.
+#[tactic(auto, using(crate::proofs::Lists::UnitLaws::login_units_law))]
+pub fn logins_are_on_their_units()
+    ensures { LoginUnitsLaw }
+{}
+
+/// In every run in which no initiator injected packets, or few logins were given, each command ran on such a unit: one that some
+/// initiator asked for, or, of an initiator that injected none where few logins were given, one that this one asked for.
+#[tactic(auto, using(crate::proofs::Lists::UnitRan::run_units_law))]
+pub fn commands_run_on_their_units()
+    ensures { RunUnitsLaw }
+{}
+
+/// By every history, where each `login` line asks for one unit, and that is unit 0 where the initiators begin logged in, no other unit was
+/// asked for.
+#[tactic(auto, using(crate::proofs::Lists::UnitLines::one_unit_law))]
+pub fn lines_ask_for_one_unit()
+    ensures { OneUnitLaw }
+{}
+
+/// In every run in which no initiator injected packets, and no line aborts an ORB, no ORB ends as aborted: no agent has its ORB marked,
+/// since each management ORB that the target decides on was made in a line of an action.
+#[tactic(auto, using(crate::proofs::Lists::AbortedEnds::none_aborted_law))]
+pub fn no_orb_ends_as_aborted()
+    ensures { NoneAbortedLaw }
+{}
+
+/// In every run in which no initiator injected packets, or few logins were given, no ORB of an initiator that injected none ends as
+/// dummy, where this initiator made none a dummy: what the target read of an ORB is what the initiator's memory held.
+#[tactic(auto, using(crate::proofs::Lists::DummyEnds::none_dummy_law))]
+pub fn no_orb_ends_as_dummy()
+    ensures { NoneDummyLaw }
 {}

@@ -54,7 +54,7 @@ unfolding reply_step
 unlisted_none m place plain told Main answer e = unlisted_main place plain (told_or told) m.phase m answer e
 unlisted_none m place plain told Ahead answer e = none_if (is_ahead m.ahead) (ahead_step m answer) (quiet, m) (ahead_none m (payload_of answer 32)) refl
 
-listed : (m : Machine) (place : ℕ) (plain : PlainDisk) (told : Option Told) (which : Which) (answer : Answer) (status : StatusKind) → (reply_step m place plain told which answer).0.ended ≡ Some status → has_list m.phase ≡ true
+pub listed : (m : Machine) (place : ℕ) (plain : PlainDisk) (told : Option Told) (which : Which) (answer : Answer) (status : StatusKind) → (reply_step m place plain told which answer).0.ended ≡ Some status → has_list m.phase ≡ true
 listed m place plain told which answer status e = by (has_list m.phase) refl
   where
     by : (b : Bool) → has_list m.phase ≡ b → b ≡ true

@@ -158,7 +158,7 @@ module _ (units ready : ℕ) (more_units : 0 < units) (start : List Disk) {past 
 
       module _ (calm : IsCalm (hist past w) i) (shorts : AreShort (hist past w)) (based : EachMoment (BasedAt i) (hist past w)) where
         -- what it brings is good
-        answered : (fair : t.injects 0 ≡ false) → AnswersAt (said (notes.Got serial)) before → (bytes : List ℕ) → answer_in (packet_at t serial) ≡ Payload bytes → IsAnswered before i serial own bytes
+        pub answered : (fair : t.injects 0 ≡ false) → AnswersAt (said (notes.Got serial)) before → (bytes : List ℕ) → answer_in (packet_at t serial) ≡ Payload bytes → IsAnswered before i serial own bytes
         answered fair answers bytes pays = record {
           own = λ packet sent.
               let same : packet ≡ q = same_some packet q (sym sent ∙ reply.sent) in
@@ -191,7 +191,7 @@ module _ (start : List Disk) (line : ℕ) (event : Event) (past : List Moment) (
   abbrev here : List Moment
   here = asked line event ∷ past
 
-  answers_before : AnswersAt (said (notes.Got serial)) here → AnswersAt (said (notes.Got serial)) past
+  pub answers_before : AnswersAt (said (notes.Got serial)) here → AnswersAt (said (notes.Got serial)) past
   answers_before a request closed asking sent from to =
       let x = terms past in
       let same : (terms here).sent ≡ x.sent = (opened_terms event x).sent in

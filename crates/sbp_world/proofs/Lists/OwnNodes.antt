@@ -40,7 +40,7 @@ Nothing start past w = Unit {0}
 nothing : EveryPlace Nothing
 nothing = record { after_lines = λ line run r has small size so_far. tt; between = λ line run r has small size next most told m so_far. tt }
 
-abbrev AreIds : List Moment → WorldState → Type 0
+abbrev pub AreIds : List Moment → WorldState → Type 0
 AreIds past w = (i : ℕ) → i < length w.initiators → id_for (terms past) 0 (suc i) ≡ id_in w i
 
 all_ids : (units ready : ℕ) → 0 < units → (start : List Disk) → Keeps units ready start (Nothing start) AreIds
@@ -51,7 +51,7 @@ unfolding new_world
 first_ids line run few has small size i inside =
     id_is run.units (ready_logins run.initiators run.ready) has run.start.disks (beginning run).world (first_holds run.initiators run.ready run.units line run.start.disks few small size) i inside
 
-ids_everywhere : EveryPlace (λ start past w. AreIds past w)
+pub ids_everywhere : EveryPlace (λ start past w. AreIds past w)
 ids_everywhere = record {
   after_lines = λ line run r has small size so_far.
       at_lines Nothing AreIds nothing line run r.few has small size (all_ids run.units (ready_logins run.initiators run.ready) has run.start.disks) (first_ids line run r.few has small size) r so_far;

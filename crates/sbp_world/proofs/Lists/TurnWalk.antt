@@ -324,7 +324,7 @@ line_calls wild past line s (events.Key unit key) told o q m number rows law f =
 begun_seated : (w : WorldState) → IsSeatedWell w → IsSeatedWell (without_notes w)
 begun_seated w f = record { good = f.good; seats = λ p login e. let k = f.seats p login e in record { holder_is = k.holder_is; there = k.there; id_is = k.id_is } }
 
-turn_calls : (wild : ℕ → Bool) (past : List Moment) (s : Scene) (later : List Moment) (t : Scene) → Turn past s later t → IsSeatedWell s.world → AreNumbered (hist past s.world) s.world → ((i : ℕ) → i < length s.world.initiators → AreRows (hist past s.world) i (initiator_at s.world i).lists.slots) → OrderLaw wild (hist past s.world) → TurnFrom wild past s.world later t.world
+pub turn_calls : (wild : ℕ → Bool) (past : List Moment) (s : Scene) (later : List Moment) (t : Scene) → Turn past s later t → IsSeatedWell s.world → AreNumbered (hist past s.world) s.world → ((i : ℕ) → i < length s.world.initiators → AreRows (hist past s.world) i (initiator_at s.world i).lists.slots) → OrderLaw wild (hist past s.world) → TurnFrom wild past s.world later t.world
 turn_calls wild _ _ _ _ (by_line past s line event told o q m) f number rows law = record {
   w = without_notes s.world;
   target = refl;
