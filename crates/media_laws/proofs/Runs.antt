@@ -13,9 +13,10 @@ use Rattle.sbp_world.specs.Making.{new_world, notes_begin, ready_logins}
 use Rattle.sbp_bus.specs.Places.{new_places}
 use Rattle.sbp_world.specs.Runs.{AreEntries, Entry, Run, after, beginning, first_scene}
 use Rattle.sbp_world.specs.Worlds.{Scene}
+use Rattle.media_terms.specs.Media.{notes_in}
 use Rattle.media_laws.specs.Media.{LeavesMedia, left_by_note, media_after}
 use Rattle.media_laws.specs.Runs.{DisksLaw}
-use Rattle.media_laws.proofs.Folds.{leaves_media, notes_in}
+use Rattle.media_laws.proofs.Folds.{leaves_media}
 use Rattle.media_laws.proofs.Ledgers.{ledger, seats_in}
 use Rattle.media_laws.proofs.Lines.{Agrees, line_agrees, media_is}
 use Rattle.media_laws.proofs.Tables.{seats_of}
