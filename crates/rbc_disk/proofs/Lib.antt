@@ -3,6 +3,6 @@ pub mod CheckLemmas
 pub mod AnswerLemmas
 pub mod AttentionLemmas
 pub mod KeyLemmas
-mod BlockLemmas
-mod ReadLemmas
+pub mod BlockLemmas
+pub mod ReadLemmas
 mod PlainChecks

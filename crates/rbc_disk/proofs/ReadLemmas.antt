@@ -31,11 +31,11 @@ behind_first : (check others : Option Sense) → first_of check others ≡ None 
 behind_first None others e = e
 behind_first (Some check) others e = cc e
 
-unchecked : (check failure : Option Sense) → MayEnd check failure None → check ≡ None
+pub unchecked : (check failure : Option Sense) → MayEnd check failure None → check ≡ None
 unchecked None failure e = refl
 unchecked (Some check) failure e = cc e
 
-request_inside : (request : Request) (buffer : BufferPlan) (plain : PlainDisk) → request_check request buffer plain ≡ None → is_outside request plain.medium.blocks ≡ false
+pub request_inside : (request : Request) (buffer : BufferPlan) (plain : PlainDisk) → request_check request buffer plain ≡ None → is_outside request plain.medium.blocks ≡ false
 request_inside request buffer plain e =
     let allowed = (behind_check (is_eject request && plain.unit.is_prevented) removal_prevented _ e).1 in
     let loaded = behind_first (tray_check request plain.medium) _ allowed in
@@ -43,7 +43,7 @@ request_inside request buffer plain e =
     let started = (behind_check (needs_medium request && not plain.unit.is_started) not_started _ present).1 in
     (behind_check (is_outside request plain.medium.blocks) outside _ started).0
 
-fields_pass : (cdb : List ℕ) (buffer : BufferPlan) (plain : PlainDisk) (place : ℕ) → check_of cdb buffer plain place ≡ None → field_check (request_of plain.medium.is_bay cdb) buffer plain ≡ None
+pub fields_pass : (cdb : List ℕ) (buffer : BufferPlan) (plain : PlainDisk) (place : ℕ) → check_of cdb buffer plain place ≡ None → field_check (request_of plain.medium.is_bay cdb) buffer plain ≡ None
 unfolding check_of
 fields_pass cdb buffer plain place e =
     behind_first (told_marks (is_inquiry (operation_in cdb)) (mark_check (has_place plain.unit.reset place) (has_place plain.unit.changed place))) _
@@ -57,7 +57,7 @@ plain_is cdb = refl
 request_is : (is_bay : Bool) (cdb : List ℕ) (command : Command) → is_bay ≡ false → command_of cdb ≡ Ok command → request_of is_bay cdb ≡ Ok (requests.Plain command)
 request_is is_bay cdb command no_bay e = ap (λ b. request_of b cdb) no_bay ∙ plain_is cdb ∙ ap plain_request e
 
-within_blocks : (lba count blocks : ℕ) → is_past lba count blocks ≡ false → lba + count ≤ blocks
+pub within_blocks : (lba count blocks : ℕ) → is_past lba count blocks ≡ false → lba + count ≤ blocks
 within_blocks lba count blocks e = grind arith
 
 -- the blocks of a command that ran well are inside the medium
@@ -84,7 +84,7 @@ record Holds (held : ℕ → List ℕ) (medium : Disk) : Type 0 where
   no_bay : medium.is_bay ≡ false
   each : (block : ℕ) → block < medium.blocks → blocks_at block 1 bytes ≡ held block
 
-overwrite_size : (at : ℕ) (bytes new : List ℕ) → at + length new ≤ length bytes → length (overwrite bytes at new) ≡ length bytes
+pub overwrite_size : (at : ℕ) (bytes new : List ℕ) → at + length new ≤ length bytes → length (overwrite bytes at new) ≡ length bytes
 overwrite_size at bytes new h =
     omega (arith, length-append (take at bytes) (new ++ drop (length new) (drop at bytes)), length-append new (drop (length new) (drop at bytes)), length-take-le at bytes (omega arith), length-drop (length new) (drop at bytes), length-drop at bytes)
 
@@ -141,7 +141,7 @@ run_holds (Ok (commands.Write lba count)) held medium payload h inside fed = wri
 run_holds (Ok (commands.Verify lba count)) held medium payload h inside fed = h
 run_holds (Ok commands.Sync) held medium payload h inside fed = h
 
-checked_leaves : (request : Result Request Sense) (payload : List ℕ) (check : Sense) (medium : Disk) → medium_ended request payload (Some check) medium ≡ medium
+pub checked_leaves : (request : Result Request Sense) (payload : List ℕ) (check : Sense) (medium : Disk) → medium_ended request payload (Some check) medium ≡ medium
 checked_leaves (Ok request) payload check medium = refl
 checked_leaves (Err refused) payload check medium = refl
 

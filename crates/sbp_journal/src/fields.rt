@@ -67,7 +67,7 @@ pub(crate) fn push_node(room: &mut Room, node: u8)
 }
 
 /// Adds bytes in the canonical form, and has room for a status behind them.
-pub(crate) fn push_canonical(
+pub fn push_canonical(
     alloc: Global,
     out: &mut Bytes,
     room: &mut Room,
@@ -139,7 +139,7 @@ pub(crate) fn push_check(room: &mut Room, check: Option<Sense>)
 
 /// Adds the words of a status: `good`, `check K/CC/QQ`, `dummy`, `aborted`, `illegal XX` or `failed`.
 #[inline(always)]
-pub(crate) fn push_status(room: &mut Room, status: StatusKind)
+pub fn push_status(room: &mut Room, status: StatusKind)
     requires status { IsStatus status }
     requires room { length room.old + 16 ≤ 1024 }
     ensures text { room.new ≡ room.old ++ further (status_fields status) }

@@ -18,6 +18,7 @@ mod writer;
 
 pub use cause::{Cause, CutCause, Judged, TargetFault};
 pub use event::{Action, Cmd, Event};
+pub use fields::{push_canonical, push_status};
 pub use journal::{Journal, Text};
 pub use note::{Note, NoteBuffer};
 pub use operation::{FunctionWord, OpWord, Operation};
