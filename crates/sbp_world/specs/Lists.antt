@@ -16,6 +16,7 @@ pub mod CutOff
 pub mod CutSlots
 pub mod EndedLists
 pub mod Execution
+pub mod Faults
 pub mod FewLogins
 pub mod FedNames
 pub mod FedRuns
@@ -52,6 +53,8 @@ pub mod Needs
 pub mod Opened
 pub mod Opens
 pub mod Taken
+pub mod TakenAlive
+pub mod TakenTurns
 pub mod Orders
 pub mod OwnLogins
 pub mod Owners

@@ -6,6 +6,7 @@ ghost use Rattle.sbp_world.specs.Lists.Brings.{BringsLaw};
 ghost use Rattle.sbp_world.specs.Lists.CarriedEnds.{WereReadLaw};
 ghost use Rattle.sbp_world.specs.Lists.CarriedRuns.{RunsReadLaw};
 ghost use Rattle.sbp_world.specs.Lists.CarriedWhole.{CarriedRunLaw};
+ghost use Rattle.sbp_world.specs.Lists.Faults.{FaultsLaw};
 ghost use Rattle.sbp_world.specs.Lists.FedRuns.{BesideLaw, RunsFedLaw, RunsSinceLaw};
 ghost use Rattle.sbp_world.specs.Lists.GotOnce.{GotOnceLaw};
 ghost use Rattle.sbp_world.specs.Lists.ManagedGots.{ManagedAsGotLaw};
@@ -19,6 +20,7 @@ ghost use Rattle.sbp_world.specs.Lists.Closes.{ClosingLaw, OpenListsLaw};
 ghost use Rattle.sbp_world.specs.Lists.EndedLists.{EndedListsLaw};
 ghost use Rattle.sbp_world.specs.Lists.Opens.{OpensLaw};
 ghost use Rattle.sbp_world.specs.Lists.Taken.{TakenListsLaw};
+ghost use Rattle.sbp_world.specs.Lists.TakenAlive.{AliveTakesLaw};
 ghost use Rattle.sbp_world.specs.Lists.Orders.{AppendsLaw, OrderRunLaw};
 ghost use Rattle.sbp_world.specs.Lists.Names.{NamesLaw};
 ghost use Rattle.sbp_world.specs.Lists.Running.{ListsRunLaw, RunsRunLaw, UnrunLaw};
@@ -63,6 +65,7 @@ ghost use Rattle.sbp_world.specs.Lists.LoginUnits.{LoginUnitsLaw, RunUnitsLaw};
 ghost use Rattle.sbp_world.specs.Lists.UnitLines.{OneUnitLaw};
 ghost use Rattle.sbp_world.specs.Lists.PlainStatuses.{NoneAbortedLaw, NoneDummyLaw};
 ghost use Rattle.sbp_world.specs.Lists.SendsLast.{SendsLastLaw};
+ghost use Rattle.sbp_world.specs.Lists.TakenTurns.{IgnoredLaw, TakenTurnsLaw};
 ghost use Rattle.sbp_world.specs.Lists.LetsGo.{MainStaysLaw, NobodyWaitsLaw};
 ghost use Rattle.sbp_world.specs.Lists.NobodyGots.{NobodyAsGotLaw};
 ghost use Rattle.sbp_world.specs.Lists.CarriedOrbs.{CarriedOrbsLaw};
@@ -577,6 +580,30 @@ pub fn initiators_have_one_agent_up()
     ensures { OneUpLaw }
 {}
 
+/// In every run in which no initiator injected packets, or few logins were given, no ORB of a list of an initiator that injected none
+/// ends behind one that ended as failed or illegal: so an ORB that ended so is the last one of its list that ended. After every line,
+/// and behind each delivery of a line that delivers one packet after the other.
+#[tactic(auto, using(crate::proofs::Lists::Clauses::faults))]
+pub fn no_orb_ends_behind_a_failed_one()
+    ensures { FaultsLaw }
+{}
+
+/// In every run in which no initiator injected packets, or few logins were given, an initiator that injected none, and that takes
+/// the statuses of a list in the order of its ORBs, without a gap, takes no status of a list behind one that is failed or illegal:
+/// after the lines of the run.
+#[tactic(auto, using(crate::proofs::Lists::Clauses::takes_alive))]
+pub fn no_status_is_taken_behind_a_failed_one()
+    ensures { AliveTakesLaw }
+{}
+
+/// In every run in which no initiator injected packets, or few logins were given, an initiator that injected none takes the statuses of
+/// each list in the order of its ORBs, without a gap: the number of each is how many it took of this list before. After every line, and
+/// behind each delivery of a line that delivers one packet after the other.
+#[tactic(auto, using(crate::proofs::Lists::TakenInOrder::taken_turns))]
+pub fn statuses_are_taken_in_order()
+    ensures { TakenTurnsLaw }
+{}
+
 /// In every run in which no initiator injected packets, or few logins were given, where lists were open as they should be before,
 /// each write of the target into a data buffer of an initiator that injected none is of a generation that the initiator has seen;
 /// and in the present one it is of an ORB that ran, which its slot has until the status of the ORB is taken.
@@ -747,4 +774,12 @@ pub fn no_orb_ends_as_aborted()
 #[tactic(auto, using(crate::proofs::Lists::DummyEnds::none_dummy_law))]
 pub fn no_orb_ends_as_dummy()
     ensures { NoneDummyLaw }
+{}
+
+/// In every run, whatever anyone injected, a status block that an initiator ignored for its slot names a slot whose ORB, the one that was
+/// prepared last there, does not wait for a status. After every line, and behind each delivery of a line that delivers one packet after
+/// the other.
+#[tactic(auto, using(crate::proofs::Lists::IgnoredSlots::ignored_law))]
+pub fn ignored_statuses_name_no_waiting_orb()
+    ensures { IgnoredLaw }
 {}

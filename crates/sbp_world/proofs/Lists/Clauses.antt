@@ -2,6 +2,8 @@
 use Rattle.sbp_world.proofs.Words.Std.{◌≡◌, ◌<◌, ◌≤◌, ℕ, length}
 use Rattle.sbp_world.proofs.Words.Laws.{injectors}
 use Rattle.sbp_world.proofs.Words.World.{history_of, Run, IsRun, AreBrought, IsTameOrFew, AnswerLengthsLaw, WereReadLaw, CarriedRunLaw, OpenListsLaw, DataSentLaw, RunsSinceLaw, LiveLaw, OneUpLaw, NobodyAsGotLaw, LogoutsLaw, ListsLaw, OwnAsGotLaw, OwnGotsLaw, OwnReadsLaw, ReadsAsGotLaw, ReadAndFedLaw, AheadAsGotLaw, WaitsAsGotLaw, DataHeldLaw, ManagedAsGotLaw, AnswersBroughtLaw, AnswersHoldLaw, CutOffLaw, MainSlotsLaw, CutSlotsLaw, DataGotsLaw, ServedGotLaw, DataSequenceLaw, DataServedLaw}
+use Rattle.sbp_world.specs.Lists.Faults.{FaultsLaw}
+use Rattle.sbp_world.specs.Lists.TakenAlive.{AliveTakesLaw}
 use Rattle.sbp_world.proofs.Lists.Executes.{ends_read_law, runs_fed_law, runs_read_law}
 use Rattle.sbp_world.proofs.Lists.ListsProved.{closing}
 use Rattle.sbp_world.proofs.Lists.AnswerLengths.{answer_lengths_law}
@@ -12,6 +14,7 @@ use Rattle.sbp_world.proofs.Lists.CarriedWhole.{carried_run_law}
 use Rattle.sbp_world.proofs.Lists.CutOffRuns.{cut_off_law, nobody_law}
 use Rattle.sbp_world.proofs.Lists.DataLaws as data_laws
 use Rattle.sbp_world.proofs.Lists.DataLaws.{data_sent_law, data_held_law}
+use Rattle.sbp_world.proofs.Lists.FaultRuns.{faults_law}
 use Rattle.sbp_world.proofs.Lists.FedJoins.{runs_since_law}
 use Rattle.sbp_world.proofs.Lists.MainSlotsRuns.{main_slots_law}
 use Rattle.sbp_world.proofs.Lists.FedOwnerRuns.{own_gots_law, own_reads_law}
@@ -22,6 +25,7 @@ use Rattle.sbp_world.proofs.Lists.OwnGots.{own_as_got_law}
 use Rattle.sbp_world.proofs.Lists.OwnWaits.{reads_as_got_law}
 use Rattle.sbp_world.proofs.Lists.ReadFeeds.{read_and_fed_law}
 use Rattle.sbp_world.proofs.Lists.ShortLines.{short_law}
+use Rattle.sbp_world.proofs.Lists.TakenAlive.{alive_takes_law}
 
 pub sessions_law : LiveLaw
 sessions_law = proved.sessions_law short_law
@@ -46,6 +50,12 @@ own_law = own_reads_law open_lists_law
 
 pub one_up : OneUpLaw
 one_up = one_up_law short_law open_lists_law
+
+pub faults : FaultsLaw
+faults = faults_law short_law one_up open_lists_law
+
+pub takes_alive : AliveTakesLaw
+takes_alive = alive_takes_law lists_law faults
 
 pub reads_law : WereReadLaw
 reads_law = were_read_law open_lists_law one_up

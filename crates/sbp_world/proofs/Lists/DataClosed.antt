@@ -20,6 +20,7 @@ use Rattle.sbp_world.proofs.Lists.Passing.{PassLaw}
 use Rattle.sbp_world.proofs.Lists.Rises.{Rises}
 use Rattle.sbp_world.proofs.Lists.StatusKnown.{each_from, generation_grows}
 use Rattle.sbp_world.proofs.Lists.StatusMoments.{ended_below, ended_stays}
+use Rattle.sbp_world.proofs.Lists.TakenHistory.{WasEnded, ended_moment}
 use Rattle.sbp_world.proofs.Common.{itself, moments_split}
 use Rattle.sbp_world.proofs.Lists.AnswersCarriedBefore.{tail_is}
 
@@ -238,40 +239,6 @@ module _ (start : List Disk) (wild : ℕ → Bool) (i : ℕ) (own : wild i ≡ f
             by false true e h = now_closed (let z : serial ≡ a.serial = grind (arith, nat_tests) in z)
             by false false e h = absurd (none_behind serial slot packet d (let z : a.serial < serial = grind (arith, nat_tests) in z))
 
-  -- ---- the moment of an end
-  pub record WasEnded (past : List Moment) (n k : ℕ) (status : StatusKind) : Type 0 where
-    pub later : List Moment
-    pub before : List Moment
-    pub is : later ++ said (notes.Ended i (Some n) (Some k) status) ∷ before ≡ past
-
-  further : (m : Moment) (past : List Moment) (n k : ℕ) (status : StatusKind) → WasEnded past n k status → WasEnded (m ∷ past) n k status
-  further m past n k status w = record { later = m ∷ w.later; before = w.before; is = ap (λ h. m ∷ h) w.is }
-
-  ended_moment : (past : List Moment) (n k : ℕ) (status : StatusKind) → ended_status past i n k ≡ Some status → WasEnded past n k status
-  ended_moment [] n k status e = absurd (let z : None ≡ Some status = e in cc)
-  ended_moment (said (notes.Ended j (Some m) (Some l) st) ∷ past) n k status e = by (λ f. further _ past n k status (ended_moment past n k status f)) (nat_eq i j) (nat_eq n m) (nat_eq k l) refl refl refl e
-    where
-      by : (ended_status past i n k ≡ Some status → WasEnded (said (notes.Ended j (Some m) (Some l) st) ∷ past) n k status) → (x y z : Bool) → nat_eq i j ≡ x → nat_eq n m ≡ y → nat_eq k l ≡ z → cond x (cond y (cond z (Some st) (ended_status past i n k)) (ended_status past i n k)) (ended_status past i n k) ≡ Some status → WasEnded (said (notes.Ended j (Some m) (Some l) st) ∷ past) n k status
-      by again true true true f g h is =
-          let same_i : i ≡ j = grind (arith, nat_tests) in
-          let same_n : n ≡ m = grind (arith, nat_tests) in
-          let same_k : k ≡ l = grind (arith, nat_tests) in
-          record {
-            later = [];
-            before = past;
-            is =
-                ap (λ a. said (notes.Ended a (Some n) (Some k) status) ∷ past) same_i
-                ∙ ap (λ a. said (notes.Ended j (Some a) (Some k) status) ∷ past) same_n
-                ∙ ap (λ a. said (notes.Ended j (Some m) (Some a) status) ∷ past) same_k
-                ∙ ap (λ x. said (notes.Ended j (Some m) (Some l) x) ∷ past) (sym (same_Some st status is));
-          }
-      by again true true false f g h is = again is
-      by again true false z f g h is = again is
-      by again false y z f g h is = again is
-  ended_moment (said (notes.Ended j (Some m) None st) ∷ past) n k status e = further _ past n k status (ended_moment past n k status e)
-  ended_moment (said (notes.Ended j None l st) ∷ past) n k status e = further _ past n k status (ended_moment past n k status e)
-  ended_moment (m ∷ past) n k status e = further m past n k status (ended_moment past n k status e)
-
   ends_there : (past : List Moment) (n k : ℕ) (status : StatusKind) → ended_status (said (notes.Ended i (Some n) (Some k) status) ∷ past) i n k ≡ Some status
   ends_there past n k status =
       ap (λ b. cond b (cond (nat_eq n n) (cond (nat_eq k k) (Some status) (ended_status past i n k)) (ended_status past i n k)) (ended_status past i n k)) (itself i)
@@ -330,8 +297,8 @@ module _ (start : List Disk) (wild : ℕ → Bool) (i : ℕ) (own : wild i ≡ f
 
     -- each of an ORB that ended
     module _ (n k : ℕ) (status : StatusKind) (e : ended_status ms i n k ≡ Some status) (proper : status ≡ kinds.Failed → ⊥) where
-      pub moment : WasEnded ms n k status
-      moment = ended_moment ms n k status e
+      pub moment : WasEnded i ms n k status
+      moment = ended_moment i ms n k status e
 
       abbrev pub ended_note : Moment
       ended_note = said (notes.Ended i (Some n) (Some k) status)

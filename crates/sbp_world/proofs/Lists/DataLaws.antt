@@ -46,7 +46,7 @@ module _ (short : ShortLaw) where
   pub untaken_by : Under (WhereTameOrFew AreUntaken)
   untaken_by = places.untaken_law opened_known.laws.pointers opened_known.laws.begun (here_beside short) (placed_beside short)
 
-  names_by : Under (WhereTameOrFew AreNames)
+  pub names_by : Under (WhereTameOrFew AreNames)
   names_by = places.names opened_known.laws.pointers opened_known.laws.begun (here_beside short) (placed_beside short)
 
   pub data_sent_law : UnderFrom (λ start. WhereTameOrFew (AllDataSo start))

@@ -25,7 +25,7 @@ module _ (start : List Disk) (past : List Moment) (w : WorldState) (opened : Are
     is_opened : IsOpened past w place
     is_opened = opened place b (up_state _ up.up)
 
-    inside : i < length w.initiators
+    pub inside : i < length w.initiators
     inside = subst (λ j. j < length w.initiators) up.own is_opened.inside
 
     abbrev one : IsOpenFor (view past i) i place (holder w place).list
@@ -35,7 +35,7 @@ module _ (start : List Disk) (past : List Moment) (w : WorldState) (opened : Are
     two = (open_for i inside calm).each other c up_other
 
     -- the initiator is in the target's generation, or ahead of it
-    not_behind : (terms past).generation 0 ≤ (terms past).generation (suc i)
+    pub not_behind : (terms past).generation 0 ≤ (terms past).generation (suc i)
     not_behind =
         let k = held.held place is_opened.login is_opened.is in
         let is : k.holder.initiator ≡ i = ap (λ (h : Holder). h.initiator) (sym (ap or_nobody k.there)) ∙ up.own in
@@ -76,7 +76,7 @@ module _ (start : List Disk) (past : List Moment) (w : WorldState) (opened : Are
 
 -- for which list each agent is out of RESET
 module _ (short : ShortLaw) where
-  open_for_law : Under (WhereTameOrFew AreAllOpenFor)
+  pub open_for_law : Under (WhereTameOrFew AreAllOpenFor)
   open_for_law = opened_law laws (record { unrefused = logouts_end short; minded = minded_law (live_laws short) (logins_live short) })
 
   pub one_up_law : OpenListsLaw → OneUpLaw

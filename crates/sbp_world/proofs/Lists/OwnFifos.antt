@@ -1,8 +1,9 @@
--- What is so where no initiator injected packets was so before; and a FIFO of a login is in no window, and none of a place.
-use Rattle.sbp_world.proofs.Words.Std.{arith, ◌≡◌, refl, ℕ, ◌^◌, ◌<◌, ◌≤◌, nat_le, Bool, true, false, cond, List, ◌++◌, Some, None, nat_tests}
+-- What is so where no initiator injected packets was so before; and a FIFO of a login is one, is in no window, and none of a place.
+use Rattle.sbp_world.proofs.Words.Std.{arith, ◌≡◌, refl, inr, ℕ, ◌^◌, ◌<◌, ◌≤◌, nat_le, Bool, true, false, cond, List, ◌++◌, Some, None, nat_tests}
 use Rattle.sbp_world.proofs.Words.Wire.{Moment}
-use Rattle.sbp_world.proofs.Words.Initiator.{Window, window_at, within}
+use Rattle.sbp_world.proofs.Words.Initiator.{is_fifo, Window, window_at, within}
 use Rattle.sbp_world.proofs.Words.World.{is_place_fifo, IsLoginFifo, IsTame}
+use Rattle.bus_memory.proofs.Found.{fifo_law}
 use Rattle.sbp_world.proofs.Lists.Calm.{calm_before}
 
 pub tame_before : (later past : List Moment) → IsTame (later ++ past) → IsTame past
@@ -36,3 +37,6 @@ module _ (fifo : ℕ) (own : IsLoginFifo fifo) where
 
   pub fifo_no_place : is_place_fifo fifo ≡ false
   fifo_no_place = let high = fifo_high in grind (arith, nat_tests)
+
+  pub fifo_is_fifo : is_fifo fifo ≡ true
+  fifo_is_fifo = (fifo_law fifo).1 (inr (own.number, (own.few, own.is)))

@@ -90,7 +90,7 @@ module _ (line : ℕ) (run : Run) (r : IsRun run) (has : 0 < run.units) (small :
   past = history_of line run
 
   -- what holds of an initiator at the end of its lines
-  after_by : (R : List Moment → ℕ → Type 0) → ((ms : List Moment) (i : ℕ) → IsCalm ms i → PassLaw (injectors ms) ms → IsOfWire ms → Once ms → Rises ms → EachMoment (TakenOf i) ms → AllOfTarget ms i → EachMoment (SentSo i) ms → R ms i) → OpenBefore line run run.entries → AllSentSo past last.world → (i : ℕ) → i < length last.world.initiators → IsCalm past i → R past i
+  pub after_by : (R : List Moment → ℕ → Type 0) → ((ms : List Moment) (i : ℕ) → IsCalm ms i → PassLaw (injectors ms) ms → IsOfWire ms → Once ms → Rises ms → EachMoment (TakenOf i) ms → AllOfTarget ms i → EachMoment (SentSo i) ms → R ms i) → OpenBefore line run run.entries → AllSentSo past last.world → (i : ℕ) → i < length last.world.initiators → IsCalm past i → R past i
   after_by R f so_far sent i b calm =
       let k = stood in
       let inside : i < run.initiators = subst (λ n. i < n) (count_after run run.entries) b in
@@ -107,7 +107,7 @@ module _ (line : ℕ) (run : Run) (r : IsRun run) (has : 0 < run.units) (small :
     abbrev now : List Moment
     now = map said end.fresh ++ asked next event ∷ past
 
-    between_by : (R : List Moment → ℕ → Type 0) → ((ms : List Moment) (i : ℕ) → IsCalm ms i → PassLaw (injectors ms) ms → IsOfWire ms → Once ms → Rises ms → EachMoment (TakenOf i) ms → AllOfTarget ms i → EachMoment (SentSo i) ms → R ms i) → OpenBetween line run next event told → AllSentSo now end → (i : ℕ) → i < length end.initiators → IsCalm now i → R now i
+    pub between_by : (R : List Moment → ℕ → Type 0) → ((ms : List Moment) (i : ℕ) → IsCalm ms i → PassLaw (injectors ms) ms → IsOfWire ms → Once ms → Rises ms → EachMoment (TakenOf i) ms → AllOfTarget ms i → EachMoment (SentSo i) ms → R ms i) → OpenBetween line run next event told → AllSentSo now end → (i : ℕ) → i < length end.initiators → IsCalm now i → R now i
     between_by R f so_far sent i b calm =
         let k = stood in
         let x = facts_at line run r.few has small size run.entries r.short r.entries r.lines k.past (length run.entries) k.holds k.is next event (delivers most) told m in

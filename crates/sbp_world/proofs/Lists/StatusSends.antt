@@ -2,7 +2,7 @@
 use Rattle.sbp_world.proofs.Words.Std.{arith, ◌≡◌, ◌∙◌, refl, sym, ap, subst, ◌≤◌, ◌==◌, ◌&&◌, ◌+◌, ℕ, suc, Bool, true, false, cond, List, [], ◌∷◌, Option, Some, None, false≢true}
 use Rattle.sbp_world.proofs.Words.Wire.{LabelParts, GenerationsState, node_of, topology_at, Access, Moment, said, terms, Outgoing}
 use Rattle.sbp_world.proofs.Words.Target.{Machine}
-use Rattle.sbp_world.proofs.Words.Initiator.{slot_of, StatusBlock}
+use Rattle.sbp_world.proofs.Words.Initiator.{is_fifo, slot_of, StatusBlock}
 use Rattle.sbp_world.proofs.Words.Laws.{orb, is_write_in, access_in_bytes, EndedOrb, first_of, is_due, status_due, status_packet, EachMoment}
 use Rattle.sbp_world.proofs.Words.World.{is_place_fifo, under_way, posted, sent, sent_all, sent_to, WorldState, HasSlot, IsEndedAs, IsSentSo, IsStatusWrite, SentSo}
 use Rattle.sbp_journal.specs.declared.note.Note.TheVariants as notes
@@ -29,9 +29,9 @@ not_written true true found s e f = absurd (false≢true (sym e))
 not_written true false found s e f = f
 not_written false y found s e f = f
 
--- a status block goes to no FIFO of a place of management
+-- a status block goes to a FIFO, and to none of a place of management
 abbrev pub IsOut : Type 0 → Outgoing → Type 0
-IsOut Ours packet = Ours → (slot : ℕ) (block : StatusBlock) → IsStatusWrite packet.bytes slot block → (access : Access) → access_in_bytes packet.bytes ≡ Some access → is_place_fifo access.offset ≡ false
+IsOut Ours packet = Ours → (slot : ℕ) (block : StatusBlock) → IsStatusWrite packet.bytes slot block → (access : Access) → access_in_bytes packet.bytes ≡ Some access → (is_place_fifo access.offset ≡ false) × (is_fifo access.offset ≡ true)
 
 abbrev pub AllOut : Type 0 → List Outgoing → Type 0
 AllOut Ours [] = Unit {0}
@@ -103,7 +103,8 @@ module _ (i n k gen q peer : ℕ) (Ours Mine Told : Type 0) (told : Option EndSi
           let then = fits_on ms s g to out.bytes slot block fit in
           record {
             seen = omega (arith, low, at);
-            login = λ access e. free known slot block w access e;
+            login = λ access e. (free known slot block w access e).0;
+            fifo = λ access e. (free known slot block w access e).1;
             of = λ same. record {
               list = n;
               number = k;

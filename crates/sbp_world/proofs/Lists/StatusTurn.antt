@@ -2,7 +2,7 @@
 use Rattle.sbp_world.proofs.Words.Std.{arith, ◌≡◌, ◌∙◌, refl, sym, ap, subst, ◌<◌, ◌≤◌, ℕ, suc, nat_lt, Bool, false, cond, List, [], ◌∷◌, ◌++◌, map, length, Option, Some, None, Ok, true, slice_index_or}
 use Rattle.sbp_world.proofs.Words.Wire.{LabelParts, Packet, header_in, Layer, judging_step, of_request, of_response, Sent, node_of, topology_at, judged_note, holder_at, Cause, Judged, Note, Outgoing, Moment, said, terms}
 use Rattle.sbp_world.proofs.Words.Target.{Login, is_live, Held, Told, AgentStep, Which, Ahead, Main, lost_step, point_step, reply_step, Purpose, which_in, manage, Scene, desk_at, login_at, scene, answer_in, received, timed_out, Whole, plain_in, is_barred, demand_of}
-use Rattle.sbp_world.proofs.Words.Initiator.{slot_of, Ask, Answer, OrbPointer, TicketParts, InitiatorState, new_state, last_at, last_in, SlotTable, slot_in}
+use Rattle.sbp_world.proofs.Words.Initiator.{is_fifo, slot_of, Ask, Answer, OrbPointer, TicketParts, InitiatorState, new_state, last_at, last_in, SlotTable, slot_in}
 use Rattle.sbp_world.proofs.Words.Laws.{Orb, TakenStatus, orb, present_list, taken_at, status_packet, appends, ends, lists, EachMoment}
 use Rattle.sbp_world.proofs.Words.World.{whole_of, handed_out, holder, ticket_of, WorldState, initiator_at, has_list, AreOthers, AreRows, terms_at, IsFor, machine_at, HasSlot, AreStatuses, SentSo, is_place_fifo, AreOwnOf, IsLoginFifo}
 use Rattle.orb_layout.specs.declared.ask.Ask.TheVariants as asks
@@ -25,7 +25,7 @@ use Rattle.sbp_world.proofs.Lists.StatusCalls.{Called, acts, delivery_called, go
 use Rattle.sbp_world.proofs.Lists.StatusDue.{Ours, late_step_of, point_small, reply_step_of, ring_small}
 use Rattle.sbp_world.proofs.Lists.StatusFollows.{Followed}
 use Rattle.sbp_world.proofs.Lists.StatusHanded.{Starts, none_told, one_told}
-use Rattle.sbp_world.proofs.Lists.OwnFifos.{fifo_low, fifo_no_place}
+use Rattle.sbp_world.proofs.Lists.OwnFifos.{fifo_is_fifo, fifo_low, fifo_no_place}
 use Rattle.sbp_world.proofs.Lists.StatusSends.{AllOut}
 use Rattle.sbp_world.proofs.Lists.StatusLosses.{lost_asks, quiet_ahead}
 use Rattle.sbp_world.proofs.Lists.StatusLines.{S, target_hands}
@@ -142,7 +142,10 @@ module _ (wild : ℕ → Bool) (i : ℕ) (own : wild i ≡ false) (past : List M
       out_of login Its Mine own [] h = tt
       out_of login Its Mine own (packet ∷ later) h = (
         λ ours slot block x access e.
-            (let fifo = own ours.1 in let low = fifo_low login.fifo fifo in ap is_place_fifo (h.0 ours.0 slot block x access e ∙ same_address login.fifo (omega (arith, low))) ∙ fifo_no_place login.fifo fifo),
+            (let fifo = own ours.1 in
+            let low = fifo_low login.fifo fifo in
+            let goes : access.offset ≡ login.fifo = h.0 ours.0 slot block x access e ∙ same_address login.fifo (omega (arith, low)) in
+            (ap is_place_fifo goes ∙ fifo_no_place login.fifo fifo, ap is_fifo goes ∙ fifo_is_fifo login.fifo fifo)),
         out_of login Its Mine own later h.1,
       )
 

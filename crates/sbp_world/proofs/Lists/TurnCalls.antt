@@ -1,7 +1,7 @@
 -- What a turn of a run is to the target: it leaves the target, and no packet of it is sent; a unit gets a key; or it is one call of the target, behind the first note of the turn, and what the call hands out.
-use Rattle.sbp_world.proofs.Words.Std.{◌≡◌, ◌⊎◌, ℕ, Bool, false, true, List, ◌∷◌, Some}
-use Rattle.sbp_world.proofs.Words.Wire.{Layer, Moment, asked, said, Sending, terms, Event, Note}
-use Rattle.sbp_world.proofs.Words.Target.{Call, alone, sees, with_key, Purpose}
+use Rattle.sbp_world.proofs.Words.Std.{◌≡◌, ◌⊎◌, ℕ, Bool, false, true, List, ◌∷◌, Option, Some}
+use Rattle.sbp_world.proofs.Words.Wire.{LabelParts, Packet, Layer, judging_step, of_response, Sent, found_sent, Moment, asked, said, Sending, terms, Event, Note}
+use Rattle.sbp_world.proofs.Words.Target.{Call, alone, receives, sees, with_key, Disk, Purpose, Told}
 use Rattle.sbp_world.proofs.Words.World.{handed_out, WorldState, AreOthers}
 use Rattle.sbp_journal.specs.declared.note.Note.TheVariants as notes
 use Rattle.sbp_target.proofs.Histories.Calling.{Good}
@@ -20,6 +20,16 @@ abbrev pub is_sight : Call → Bool
 is_sight (sees generation id) = true
 is_sight _ = false
 
+-- a packet of the store comes to the target: where it is a response, it is got
+pub record Comes (w : WorldState) (first : Note) (generation : ℕ) (bytes : List ℕ) : Type 0 where
+  pub serial : ℕ
+  pub sent : Sent
+  pub found : found_sent serial w.store.kept ≡ Some sent
+  pub to : sent.to ≡ 0
+  pub generation_is : sent.generation ≡ generation
+  pub bytes_is : sent.bytes ≡ bytes
+  pub got : (packet : Packet) (label : LabelParts) (purpose : Option Purpose) → (judging_step w.target.layer generation bytes).0 ≡ of_response packet label purpose → first ≡ notes.Got serial
+
 -- one call of the target, in a world behind the first note
 pub record IsCalled (past : List Moment) (w v : WorldState) : Type 0 where
   pub good : Good w.target
@@ -35,6 +45,7 @@ pub record IsCalled (past : List Moment) (w v : WorldState) : Type 0 where
   pub layer : Layer Purpose
   pub called : Called w good ⊥ (λ p m. IsFull m) full_closed layer (alone call w.target)
   pub others : AreOthers (alone call w.target).outbox.sides
+  pub comes : (run : Option Told) (disks : List Disk) (generation : ℕ) (bytes : List ℕ) → call ≡ receives run disks generation bytes → Comes w first generation bytes
   pub is : v ≡ handed_out 0 0 (alone call w.target).outbox u
 
 pub data TurnCalls (wild : ℕ → Bool) (past : List Moment) (w v : WorldState) : Type 0 where
@@ -48,5 +59,6 @@ pub record TurnFrom (wild : ℕ → Bool) (past : List Moment) (before : WorldSt
   pub target : w.target ≡ before.target
   pub places : w.places ≡ before.places
   pub bus : w.generations ≡ before.generations
+  pub store : w.store ≡ before.store
   pub begins : (hist later w ≡ hist past before) ⊎ ((line : ℕ) × ((event : Event) × (hist later w ≡ asked line event ∷ hist past before)))
   pub turn : TurnCalls wild later w v

@@ -25,7 +25,7 @@ up_stays m now same up e =
 
 -- what the target tells of no step of an agent ends no ORB
 module _ (past : List Moment) (i n : ℕ) where
-  beside_ends : (side : List Side) (w : WorldState) → AreBeside side → ends (hist past (told_all 0 side w)) i n ≡ ends (hist past w) i n
+  pub beside_ends : (side : List Side) (w : WorldState) → AreBeside side → ends (hist past (told_all 0 side w)) i n ≡ ends (hist past w) i n
   unfolding told_all told
   beside_ends [] w h = refl
   beside_ends (sides.Own note ∷ later) w h = absurd h.0

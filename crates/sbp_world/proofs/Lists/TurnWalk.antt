@@ -1,7 +1,7 @@
 -- Each turn of a run leaves the target, gives a unit a key, or is one call of the target and what that hands out.
 use Rattle.sbp_world.proofs.Words.Std.{arith, ◌≡◌, ◌∙◌, refl, sym, ap, subst, inl, inr, ◌<◌, ◌≤◌, ◌||◌, not, ℕ, zero, suc, nat_eq, nat_lt, Bool, true, false, cond, List, [], ◌∷◌, ◌++◌, map, length, Option, Some, None, Result, Ok, Err, slice_index_or, slice_set}
-use Rattle.sbp_world.proofs.Words.Wire.{Stale, Layer, expiring_step, judging_step, Sent, found_sent, is_flying, deliver_step, Request, id_of, judged_note, no_packet, find, Judged, Event, Note, OutboxState, empty_outbox, Moment, asked, said}
-use Rattle.sbp_world.proofs.Words.Target.{Disk, Told, Call, alone, lets_expire, receives, sees, ticks, Purpose, TargetScene, scene, expired, expired_in, received, with_key, Whole}
+use Rattle.sbp_world.proofs.Words.Wire.{LabelParts, Packet, Stale, Layer, expiring_step, judging_step, of_response, Sent, found_sent, is_flying, deliver_step, Request, id_of, judged_note, no_packet, find, Judged, Event, Note, OutboxState, empty_outbox, Moment, asked, said}
+use Rattle.sbp_world.proofs.Words.Target.{Disk, Told, Call, alone, lets_expire, receives, sees, ticks, Purpose, TargetScene, scene, expired, expired_in, received, received_as, with_key, with_layer, Whole}
 use Rattle.sbp_world.proofs.Words.Initiator.{new_state, receive_step}
 use Rattle.sbp_world.proofs.Words.Laws.{OrderLaw}
 use Rattle.sbp_world.proofs.Words.World.{Arrival, MayAt, MayReceive, MayTold, arrived, at_target, delivered, delivered_by, initiator_received, initiators_received, marked, received_by, received_step, target_received, whole_of, with_initiators, handed_out, MayHappen, happens, keyed, no_unit, see_line, target_sees, target_ticks, tick_line, told_seen, with_seen, MayIf, delivered_if, expires, initiator_expires, is_in_flight, may_repeat, refused, target_expired, target_left, timed_out, timeout_line, timeout_of, MayNext, delivered_at, delivered_next, lowest, IsLine, Scene, WorldState, begun, initiator_at, with_note, with_target, without_notes, AreRows, AreOthers}
@@ -24,7 +24,7 @@ use Rattle.sbp_world.proofs.Lists.Lines.{acts, hears, injects, loses, own_lapses
 use Rattle.sbp_world.proofs.Lists.PlaceOwners.{IsSeatedWell}
 use Rattle.sbp_world.proofs.Lists.Stays.{stays_end}
 use Rattle.sbp_world.proofs.Lists.TurnAway.{acts_none, end_none, hears_none, injects_none, lapses_none, loses_none, refuses_none, resets_none, same_none, sight_none}
-use Rattle.sbp_world.proofs.Lists.TurnCalls.{TurnCalls, TurnFrom, calls, is_sight, keyed as key_set, leaves}
+use Rattle.sbp_world.proofs.Lists.TurnCalls.{Comes, TurnCalls, TurnFrom, calls, is_sight, keyed as key_set, leaves}
 use Rattle.sbp_world.proofs.Lists.Turned.{IsOne}
 use Rattle.sbp_world.proofs.Lists.Turns.{First, late_it, seen_it, tick_it}
 use Rattle.sbp_world.proofs.Lists.Walks.{Standing, Step, Turn, by_delivery, by_end, by_line, by_start}
@@ -51,6 +51,7 @@ module _ (wild : ℕ → Bool) (past : List Moment) where
     layer : Layer Purpose
     called : Called w good ⊥ (λ p m. IsFull m) full_closed layer t
     others : AreOthers t.outbox.sides
+    comes : (run : Option Told) (disks : List Disk) (generation : ℕ) (bytes : List ℕ) → call ≡ receives run disks generation bytes → Comes w first generation bytes
     is : v ≡ handed_out 0 0 t.outbox u
 
   by_call : (w v : WorldState) (call : Call) (t : TargetScene) → alone call w.target ≡ t → CallTo w v call t → T w v
@@ -69,12 +70,13 @@ module _ (wild : ℕ → Bool) (past : List Moment) where
         layer = k.layer;
         called = k.called;
         others = k.others;
+        comes = k.comes;
         is = k.is;
       })
 
   module _ (w : WorldState) (f : IsSeatedWell w) where
     -- a packet that the target gets
-    module _ (serial : ℕ) (sent : Sent) (run : Option Told) (s : Scene) (again : Bool) (others : AreOthers (received run sent.generation sent.bytes (whole_of w.target s.media)).1.outbox.sides) where
+    module _ (serial : ℕ) (sent : Sent) (found : found_sent serial w.store.kept ≡ Some sent) (zero_to : sent.to ≡ 0) (run : Option Told) (s : Scene) (again : Bool) (others : AreOthers (received run sent.generation sent.bytes (whole_of w.target s.media)).1.outbox.sides) where
       abbrev x : Judged × Whole
       x = received run sent.generation sent.bytes (whole_of w.target s.media)
 
@@ -100,6 +102,27 @@ module _ (wild : ℕ → Bool) (past : List Moment) where
           by : Bool → Marks
           by b = let m = of (again || not (is_flying serial w.store.kept)) in record { places = m.0; generations = m.1.0; fresh = ap (λ ns. judged_note serial x.0 ∷ ns) m.1.1.0; target = m.1.1.1 }
 
+      -- a response is got
+      heard_got : (packet : Packet) (label : LabelParts) (purpose : Option Purpose) → (judging_step w.target.layer sent.generation sent.bytes).0 ≡ of_response packet label purpose → judged_note serial x.0 ≡ notes.Got serial
+      unfolding received
+      heard_got packet label purpose e =
+          let found = judging_step w.target.layer sent.generation sent.bytes in
+          ap (λ f. judged_note serial (received_as run sent.bytes f (with_layer found.1 (whole_of w.target s.media))).0) e
+
+      came_by : (other : Option Told) (disks : List Disk) (generation : ℕ) (bytes : List ℕ) → receives run s.media.disks sent.generation sent.bytes ≡ receives other disks generation bytes → Comes w (judged_note serial x.0) generation bytes
+      came_by other disks generation bytes e =
+          let same_generation : sent.generation ≡ generation = cc in
+          let same_bytes : sent.bytes ≡ bytes = cc in
+          record {
+            serial = serial;
+            sent = sent;
+            found = found;
+            to = zero_to;
+            generation_is = same_generation;
+            bytes_is = same_bytes;
+            got = λ packet label purpose f. heard_got packet label purpose (ap (λ g. (judging_step w.target.layer g sent.bytes).0) same_generation ∙ (ap (λ b. (judging_step w.target.layer generation b).0) same_bytes ∙ f));
+          }
+
       delivery_calls : T w (handed_out 0 0 x.1.outbox u)
       delivery_calls =
           by_call w (handed_out 0 0 x.1.outbox u) (receives run s.media.disks sent.generation sent.bytes) (scene x.1.node x.1.outbox) refl
@@ -115,6 +138,7 @@ module _ (wild : ℕ → Bool) (past : List Moment) where
             layer = (judging_step w.target.layer sent.generation sent.bytes).1;
             called = delivery_called w f.good ⊥ (λ p m. IsFull m) full_closed f.seats sent run s.media (λ p label place found b login served which e given. absurd given);
             others = others;
+            comes = came_by;
             is = refl;
           })
 
@@ -144,6 +168,7 @@ module _ (wild : ℕ → Bool) (past : List Moment) where
             layer = layer;
             called = lapse_called w f.good ⊥ (λ p m. IsFull m) full_closed f.seats layer request.peer request.label purpose;
             others = others;
+            comes = λ run disks generation bytes z. absurd (let no : lets_expire request.peer request.label ≡ receives run disks generation bytes = z in cc);
             is = refl;
           }))
       lapse_by (Err stale, layer) e others = leaves (refuses wild past line no_packet w) (refuses_none past line no_packet w)
@@ -172,6 +197,7 @@ module _ (wild : ℕ → Bool) (past : List Moment) where
           layer = w.target.layer;
           called = sight_called w f.good ⊥ (λ p m. IsFull m) full_closed g.generation (id_of g 0);
           others = hand_law.sees g.generation (id_of g 0) w.target;
+          comes = λ run disks generation bytes z. absurd (let no : sees g.generation (id_of g 0) ≡ receives run disks generation bytes = z in cc);
           is = refl;
         })
 
@@ -193,6 +219,7 @@ module _ (wild : ℕ → Bool) (past : List Moment) where
           layer = w.target.layer;
           called = tick_called w f.good ⊥ (λ p m. IsFull m) full_closed;
           others = hand_law.ticks w.target;
+          comes = λ run disks generation bytes z. absurd (let no : ticks ≡ receives run disks generation bytes = z in cc);
           is = refl;
         })
 
@@ -221,7 +248,7 @@ module _ (wild : ℕ → Bool) (past : List Moment) where
           ap (λ (y : Option Arrival × (OutboxState × Scene)). (delivered_by serial again y).world)
           (received_is run serial s sent found ∙ ap (λ b. cond b (at_target sent.to (target_received run sent W.target s.media) s) (initiator_received sent s)) (to_zero sent.to zero_to))
           ∙ ap (λ n. handed_out n 0 x.1.0 (with_note (judged_note serial x.0) (marked serial again (with_target x.1.1.0 W)))) zero_to in
-          subst (T W) (sym last_is) (delivery_calls W f serial sent run s again others)
+          subst (T W) (sym last_is) (delivery_calls W f serial sent found zero_to run s again others)
 
       heard_own : (i : ℕ) → sent.to ≡ suc i → i < length W.initiators → T W end
       unfolding delivered initiators_received arrived
@@ -330,15 +357,16 @@ turn_calls wild _ _ _ _ (by_line past s line event told o q m) f number rows law
   target = refl;
   places = refl;
   bus = refl;
+  store = refl;
   begins = inr (line, (event, refl));
   turn = line_calls wild past line s event told o q m number (λ i c. step_law.asked line event (hist past s.world) i (initiator_at s.world i).lists.slots (rows i c)) (tt, law) (begun_seated s.world f);
 }
 turn_calls wild _ _ _ _ (by_start past s line event d) f number rows law =
     let now = asked line event ∷ hist past s.world in
     let w = without_notes s.world in
-    record { w = w; target = refl; places = refl; bus = refl; begins = inr (line, (event, refl)); turn = leaves (stays_same wild now w) (same_none now w) }
-turn_calls wild _ _ _ _ (by_delivery past s one m) f number rows law = record { w = s.world; target = refl; places = refl; bus = refl; begins = inl refl; turn = delivery_turn wild past s one m f }
-turn_calls wild _ _ _ _ (by_end past s done) f number rows law = record { w = s.world; target = refl; places = refl; bus = refl; begins = inl refl; turn = leaves (stays_end wild past done s.world) (end_none past done s.world) }
+    record { w = w; target = refl; places = refl; bus = refl; store = refl; begins = inr (line, (event, refl)); turn = leaves (stays_same wild now w) (same_none now w) }
+turn_calls wild _ _ _ _ (by_delivery past s one m) f number rows law = record { w = s.world; target = refl; places = refl; bus = refl; store = refl; begins = inl refl; turn = delivery_turn wild past s one m f }
+turn_calls wild _ _ _ _ (by_end past s done) f number rows law = record { w = s.world; target = refl; places = refl; bus = refl; store = refl; begins = inl refl; turn = leaves (stays_end wild past done s.world) (end_none past done s.world) }
 
 -- the places of the target by what is known of a place
 seated_of : (wild : ℕ → Bool) (units ready : ℕ) → 0 < units → (start : List Disk) (past : List Moment) (lines : ℕ) (w : WorldState) → Standing wild units ready start past lines w → IsSeatedWell w

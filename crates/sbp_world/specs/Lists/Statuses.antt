@@ -3,7 +3,7 @@
 -- with which that ORB ended; and until it is taken as new the slot has this ORB. So the status of an ORB is taken as it ended, of the packet that its end sent; and no
 -- status is taken of an ORB that has not ended.
 use Rattle.std.specs.Prelude.{◌≡◌, ◌<◌, ◌≤◌, ◌==◌, ◌^◌, ℕ, suc, false, true, List, ◌∷◌, length, Some, Ok}
-use Rattle.bus_memory.specs.Windows.{slot_of}
+use Rattle.bus_memory.specs.Windows.{is_fifo, slot_of}
 use Rattle.orb_layout.specs.declared.status.StatusBlock.{StatusBlock}
 use Rattle.orb_layout.specs.declared.status.StatusKind.{StatusKind}
 use Rattle.orb_layout.specs.declared.status.StatusKind.TheVariants as kinds
@@ -98,6 +98,7 @@ pub record IsSentSo (past : List Moment) (i serial generation from to : ℕ) (by
   pub seen : generation ≤ (terms past).generation (suc i)
   pub of : generation ≡ (terms past).generation (suc i) → IsStatusOf (said (notes.Sent serial generation from to bytes) ∷ past) i serial slot block
   pub login : (access : Access) → access_in_bytes bytes ≡ Some access → is_place_fifo access.offset ≡ false
+  pub fifo : (access : Access) → access_in_bytes bytes ≡ Some access → is_fifo access.offset ≡ true
 
 abbrev pub SentSo : ℕ → Moment → List Moment → Type 0
 SentSo i (said (notes.Sent serial generation from to bytes)) past = from ≡ 0 → to ≡ suc i → (slot : ℕ) (block : StatusBlock) → IsStatusWrite bytes slot block → IsSentSo past i serial generation from to bytes slot block
