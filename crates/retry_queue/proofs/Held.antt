@@ -6,6 +6,8 @@ use Rattle.std.proofs.lemmas.Bool.Decides.{nat_tests}
 use Rattle.sbp_base.specs.Update.{upd}
 use Rattle.rbc_disk.specs.Disk.{Disk, blocks_at, disk_at, overwrite, written}
 use Rattle.rbc_disk.specs.Runs.{medium_after}
+use Rattle.rbc_disk.proofs.BlockLemmas.{block_before, block_behind, block_within}
+use Rattle.rbc_disk.proofs.ReadLemmas.{overwrite_size}
 use Rattle.sbp_journal.specs.Run.{said}
 use Rattle.sbp_journal.specs.declared.note.Note.TheVariants as notes
 use Rattle.sbp_laws.specs.ExecutionLaw.{RunsOn}
@@ -18,7 +20,6 @@ use Rattle.retry_queue.specs.Known.{known}
 use Rattle.retry_queue.specs.Journals.{medium}
 use Rattle.retry_queue.specs.Parts.{HoldsWrite, covers}
 use Rattle.retry_queue.proofs.Asks.{Found, asks, found, sized}
-use Rattle.retry_queue.proofs.Blocks.{block_before, block_behind, block_within, overwrite_size}
 use Rattle.retry_queue.proofs.Cases.{both_ways, not_own, older}
 use Rattle.retry_queue.proofs.Media.{fold_is}
 use Rattle.retry_queue.proofs.Order.{journal_before}

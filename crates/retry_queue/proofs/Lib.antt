@@ -1,3 +1,16 @@
+mod Bytes
+mod Words
+mod Forms
+mod Standing
+mod Counting
+mod Generations
+mod Hearing
+mod Keeping
+mod Queues
+mod Calls
+mod Texts
+mod Watching
+mod WriteBlocks
 pub mod Cases
 pub mod Places
 pub mod Pumps
@@ -11,4 +24,13 @@ pub mod Asks
 pub mod Media
 pub mod Held
 pub mod Written
+pub mod Entries
+pub mod Brought
+mod Acted
+mod Requests
+mod LineSteps
+mod Scripted
+mod PlainRuns
+mod ScriptRuns
+pub mod StandingRuns
 mod Tries

@@ -21,10 +21,12 @@ use Rattle.sbp_laws.specs.Hosts.{Host, Underway, acted, goes_on, got_by, host_at
 use Rattle.sbp_laws.specs.Lists.{present_list}
 use Rattle.sbp_laws.specs.Packets.{answer_in, answered_at, packet_at}
 use Rattle.sbp_laws.specs.Turns.{event_of}
+use Rattle.sbp_world.specs.Lists.Faults.{is_fault}
+use Rattle.sbp_world.specs.Lists.TakenTurns.{is_failed}
 use Rattle.retry_queue.specs.Steps.{Step, of_world, world, write_at}
 use Rattle.retry_queue.specs.Known.{is_final}
 use Rattle.retry_queue.specs.Pump.{next}
-use Rattle.retry_queue.specs.Taking.{IsPlain, is_deadly, is_failed, is_unserved}
+use Rattle.retry_queue.specs.Taking.{IsPlain, is_unserved}
 use Rattle.retry_queue.specs.Journals.{IsJournal}
 use Rattle.retry_queue.specs.Law.{DeadListsWait}
 use Rattle.retry_queue.proofs.Cases.{both_ways, not_first, not_own, some_is}
@@ -96,7 +98,7 @@ got_if true x host h i = h
 got_if false x host h i = i
 
 -- a plain status is one of a submission, or leaves its agent dead
-not_final : (status : StatusKind) → IsPlain status → not (is_final status) ≡ is_deadly status
+not_final : (status : StatusKind) → IsPlain status → not (is_final status) ≡ is_fault status
 not_final kinds.Good p = refl
 not_final (kinds.Check sense) p = refl
 not_final (kinds.Illegal meaning) p = refl
@@ -105,7 +107,7 @@ not_final kinds.Dummy p = absurd p
 not_final kinds.Aborted p = absurd p
 not_final (kinds.Management meaning) p = absurd p
 
-tells_dead : (status : StatusKind) → is_deadly status ≡ true → ((blocks.row_of status).dead == 1) ≡ true
+tells_dead : (status : StatusKind) → is_fault status ≡ true → ((blocks.row_of status).dead == 1) ≡ true
 tells_dead (kinds.Illegal meaning) e = refl
 tells_dead kinds.Failed e = refl
 tells_dead kinds.Good e = absurd (cc e)
@@ -119,7 +121,7 @@ or_true true b e = refl
 or_true false b e = e
 
 -- ---- what was none of a submission was failed or illegal
-one_taken : (b u f v g : Bool) (status : StatusKind) → u ≡ f → v ≡ g → IsPlain status → cond b (v || not (is_final status)) u ≡ cond b (g || is_deadly status) f
+one_taken : (b u f v g : Bool) (status : StatusKind) → u ≡ f → v ≡ g → IsPlain status → cond b (v || not (is_final status)) u ≡ cond b (g || is_fault status) f
 one_taken true u f v g status d e plain = ap (λ x. x || not (is_final status)) e ∙ ap (λ x. g || x) (not_final status plain)
 one_taken false u f v g status d e plain = d
 
@@ -138,10 +140,10 @@ Marks past = (n : ℕ) → present_list (world past) 0 ≡ Some n → is_failed 
 -- a deadly status of the present list
 module _ (past : List Step) (n : ℕ) (status : StatusKind) (present : present_list (world past) 0 ≡ Some n) (alive : is_failed (world past) 0 n ≡ false) where
   abbrev failed : Bool → ℕ → Bool
-  failed here m = cond here (is_failed (world past) 0 n || is_deadly status) (is_failed (world past) 0 m)
+  failed here m = cond here (is_failed (world past) 0 n || is_fault status) (is_failed (world past) 0 m)
 
-  deadly : (m : ℕ) → present_list (world past) 0 ≡ Some m → (here : Bool) → nat_eq m n ≡ here → failed here m ≡ true → is_deadly status ≡ true
-  deadly m same true e f = sym (ap (λ b. b || is_deadly status) alive) ∙ f
+  deadly : (m : ℕ) → present_list (world past) 0 ≡ Some m → (here : Bool) → nat_eq m n ≡ here → failed here m ≡ true → is_fault status ≡ true
+  deadly m same true e f = sym (ap (λ b. b || is_fault status) alive) ∙ f
   deadly m same false e f = absurd (let at : m ≡ n = some_is m n (sym same ∙ present) in grind (arith, nat_tests))
 
   marks_taken : (m : ℕ) → present_list (world past) 0 ≡ Some m → failed (nat_eq m n) m ≡ true → (marked : Bool) → (marked || ((blocks.row_of status).dead == 1)) ≡ true

@@ -8,10 +8,10 @@ use Rattle.sbp_journal.specs.declared.note.Note.TheVariants as notes
 use Rattle.sbp_laws.specs.Actions.{list_for}
 use Rattle.sbp_laws.specs.Lists.{is_list, is_none_taken, present_list, taken_at, waits_in}
 use Rattle.sbp_laws.specs.Terms.{appends, lists}
+use Rattle.sbp_world.specs.Lists.TakenTurns.{is_failed, takes_in}
 use Rattle.retry_queue.specs.Steps.{Step, of_world, submitted, Submission, EachStep, command_for, submissions, world, write_at}
 use Rattle.retry_queue.specs.Known.{begins_list, known}
 use Rattle.retry_queue.specs.Pump.{next, next_by}
-use Rattle.retry_queue.specs.Taking.{is_failed, takes_in}
 use Rattle.retry_queue.specs.Journals.{IsAppended, IsJournal, IsOf, MadeAt}
 use Rattle.retry_queue.specs.Parts.{ConsecutiveAt}
 use Rattle.retry_queue.specs.Law.{OrderKept}

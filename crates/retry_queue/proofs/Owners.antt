@@ -14,9 +14,10 @@ use Rattle.sbp_laws.specs.StatusLaw.{TakenAt}
 use Rattle.sbp_laws.specs.Terms.{appends, ended_status, ends, lists, request_at, runs}
 use Rattle.sbp_laws.specs.Lists.{present_list}
 use Rattle.sbp_laws.specs.Turns.{EachMoment}
+use Rattle.sbp_world.specs.Lists.TakenTurns.{is_failed, takes_in}
 use Rattle.retry_queue.specs.Steps.{Step, Submission, of_world, submissions, submitted, world, write_at}
 use Rattle.retry_queue.specs.Known.{Known, begins_list, finishes, known, new_known}
-use Rattle.retry_queue.specs.Taking.{IsPlain, IsTakenInTurn, all_good, is_failed, ran_good, takes_in}
+use Rattle.retry_queue.specs.Taking.{IsPlain, IsTakenInTurn, all_good, ran_good}
 use Rattle.retry_queue.specs.Journals.{IsJournal}
 use Rattle.retry_queue.specs.Parts.{covers}
 use Rattle.retry_queue.proofs.Cases.{by_two, not_first, not_own, older}

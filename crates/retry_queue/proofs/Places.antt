@@ -1,14 +1,15 @@
 -- What is known of the lists of a queue and of its submissions, over the values of the folds: K of its submissions, how many there are, and of
 -- its lists how many ORBs were appended (A), how many statuses were taken (T), and whether one of them was failed or illegal (F). Of the
 -- latest list that is more: also where it was dropped, since its ORBs may run until the target cuts it.
-use Rattle.std.proofs.Common.{◌≡◌, ◌∙◌, refl, sym, ap, subst, ℕ, zero, suc, ◌+◌, ◌<◌, ◌≤◌, Bool, true, false, cond, nat_eq, nat_lt, Option, Some, None, arith}
+use Rattle.std.proofs.Common.{◌≡◌, ◌∙◌, refl, sym, ap, subst, ℕ, suc, ◌+◌, ◌<◌, ◌≤◌, Bool, true, false, cond, nat_eq, nat_lt, Option, Some, None, arith}
 use Rattle.std.specs.Prelude.{◌||◌}
 use Rattle.std.proofs.lemmas.Bool.Decides.{nat_tests}
 use Rattle.sbp_base.specs.Update.{upd}
 use Rattle.orb_layout.specs.declared.status.StatusKind.{StatusKind}
 use Rattle.orb_layout.specs.declared.status.StatusKind.TheVariants as kinds
+use Rattle.sbp_world.specs.Lists.Faults.{is_fault}
 use Rattle.retry_queue.specs.Known.{Known, begins_list, finishes, new_known}
-use Rattle.retry_queue.specs.Taking.{IsPlain, is_deadly}
+use Rattle.retry_queue.specs.Taking.{IsPlain}
 use Rattle.retry_queue.proofs.Cases.{both_ways, none_is, some_is}
 
 -- a list in which ORBs were appended
@@ -122,7 +123,7 @@ module _ (K : Known) (count : ℕ) (A T : ℕ → ℕ) (F : ℕ → Bool) (lists
   one_more n m = cond (nat_eq m n) (suc (T n)) (T m)
 
   abbrev pub failed : ℕ → StatusKind → ℕ → Bool
-  failed n status m = cond (nat_eq m n) (F n || is_deadly status) (F m)
+  failed n status m = cond (nat_eq m n) (F n || is_fault status) (F m)
 
   one_more_here : (n : ℕ) → one_more n n ≡ suc (T n)
   one_more_here n = by (nat_eq n n) refl
@@ -131,11 +132,11 @@ module _ (K : Known) (count : ℕ) (A T : ℕ → ℕ) (F : ℕ → Bool) (lists
       by true e = refl
       by false e = absurd (grind (arith, nat_tests))
 
-  failed_here : (n : ℕ) (status : StatusKind) (is : Bool) → is_deadly status ≡ is → F n ≡ false → failed n status n ≡ is
+  failed_here : (n : ℕ) (status : StatusKind) (is : Bool) → is_fault status ≡ is → F n ≡ false → failed n status n ≡ is
   failed_here n status is e f = by (nat_eq n n) refl
     where
-      by : (b : Bool) → nat_eq n n ≡ b → cond b (F n || is_deadly status) (F n) ≡ is
-      by true same = ap (λ b. b || is_deadly status) f ∙ e
+      by : (b : Bool) → nat_eq n n ≡ b → cond b (F n || is_fault status) (F n) ≡ is
+      by true same = ap (λ b. b || is_fault status) f ∙ e
       by false same = absurd (grind (arith, nat_tests))
 
   module _ (n k : ℕ) (status : StatusKind) (last : suc n ≡ lists) (turn : k ≡ T n) (appended : k < A n) (alive : F n ≡ false) where
@@ -143,7 +144,7 @@ module _ (K : Known) (count : ℕ) (A T : ℕ → ℕ) (F : ℕ → Bool) (lists
     others : (m : ℕ) → A m ≡ 0 → (one_more n m ≡ 0) × (failed n status m ≡ false)
     others m none = by (nat_eq m n) refl
       where
-        by : (b : Bool) → nat_eq m n ≡ b → (cond b (suc (T n)) (T m) ≡ 0) × (cond b (F n || is_deadly status) (F m) ≡ false)
+        by : (b : Bool) → nat_eq m n ≡ b → (cond b (suc (T n)) (T m) ≡ 0) × (cond b (F n || is_fault status) (F m) ≡ false)
         by true e = absurd (let at : m ≡ n = grind (arith, nat_tests) in let zero : A n ≡ 0 = ap A (sym at) ∙ none in omega (arith, zero))
         by false e = h.unbegun m none
 
@@ -154,7 +155,7 @@ module _ (K : Known) (count : ℕ) (A T : ℕ → ℕ) (F : ℕ → Bool) (lists
     abbrev pub final : Known
     final = record K { done = suc K.done; has = upd K.has (K.first n + k) true }
 
-    pub takes_final : is_deadly status ≡ false → Places final count A (one_more n) (failed n status) lists present
+    pub takes_final : is_fault status ≡ false → Places final count A (one_more n) (failed n status) lists present
     takes_final plain = record {
       tail = λ m same. let at : m ≡ n = omega (arith, last, same) in subst (λ m. Begun final count A (one_more n) (failed n status) m) (sym at) begun;
       latest = h.latest;
@@ -180,7 +181,7 @@ module _ (K : Known) (count : ℕ) (A T : ℕ → ℕ) (F : ℕ → Bool) (lists
             by false e = let at = is_at in let f = h.front q in f ∙ grind (arith, nat_tests)
 
     -- one that is failed or illegal
-    pub takes_deadly : is_deadly status ≡ true → Places K count A (one_more n) (failed n status) lists present
+    pub takes_deadly : is_fault status ≡ true → Places K count A (one_more n) (failed n status) lists present
     takes_deadly deadly = record {
       tail = λ m same. let at : m ≡ n = omega (arith, last, same) in subst (λ m. Begun K count A (one_more n) (failed n status) m) (sym at) begun;
       latest = h.latest;
@@ -202,10 +203,10 @@ module _ (K : Known) (count : ℕ) (A T : ℕ → ℕ) (F : ℕ → Bool) (lists
     takes plain = by status refl plain
       where
         by : (s : StatusKind) → status ≡ s → IsPlain s → Places (finishes n k s K) count A (one_more n) (failed n status) lists present
-        by kinds.Good e p = takes_final (ap is_deadly e)
-        by (kinds.Check sense) e p = takes_final (ap is_deadly e)
-        by (kinds.Illegal meaning) e p = takes_deadly (ap is_deadly e)
-        by kinds.Failed e p = takes_deadly (ap is_deadly e)
+        by kinds.Good e p = takes_final (ap is_fault e)
+        by (kinds.Check sense) e p = takes_final (ap is_fault e)
+        by (kinds.Illegal meaning) e p = takes_deadly (ap is_fault e)
+        by kinds.Failed e p = takes_deadly (ap is_fault e)
         by kinds.Dummy e p = absurd p
         by kinds.Aborted e p = absurd p
         by (kinds.Management meaning) e p = absurd p

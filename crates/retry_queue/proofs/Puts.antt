@@ -1,24 +1,21 @@
 -- A good run of a submission's command puts its bytes from its first block on, inside the medium.
-use Rattle.std.proofs.Common.{arith, ◌≡◌, ◌∙◌, refl, sym, ap, subst, ℕ, ◌+◌, ◌*◌, ◌^◌, ◌<◌, ◌≤◌, nat_lt, Bool, true, false, List, [], ◌∷◌, ◌++◌, length, take, Option, Some, None, Result, Ok, Err}
-use Rattle.std.specs.Prelude.{◌==◌, ◌&&◌, not, is_none, if◌then◌else◌}
-use Rattle.std.proofs.lemmas.Bool.{ltb-true}
+use Rattle.std.proofs.Common.{arith, ◌≡◌, ◌∙◌, refl, sym, ap, ℕ, ◌+◌, ◌*◌, ◌^◌, ◌<◌, ◌≤◌, Bool, true, false, List, [], ◌∷◌, ◌++◌, length, take, Some, None, Ok}
+use Rattle.std.specs.Prelude.{◌==◌, if◌then◌else◌}
 use Rattle.std.proofs.lemmas.Bool.Decides.{nat_tests}
 use Rattle.byteorder.specs.Endian.{big_bytes}
 use Rattle.byteorder.specs.Numbers.{big_number-reads_back}
-use Rattle.rbc_command.specs.declared.command.Command.{Command}
 use Rattle.rbc_command.specs.declared.command.Command.TheVariants as commands
 use Rattle.rbc_command.specs.declared.sense.Sense.{Sense}
-use Rattle.rbc_command.specs.Commands.{lba_of, operation_in, unless_bad}
-use Rattle.rbc_command.specs.SenseData.{bad_field, is_protected, no_command, no_medium, not_started, outside, removal_prevented}
-use Rattle.rbc_disk.specs.Checks.{check_if, check_of, field_check, first_of, mark_check, request_check, told_marks, tray_check}
+use Rattle.rbc_command.specs.Commands.{lba_of}
+use Rattle.rbc_disk.specs.Checks.{check_of, field_check}
 use Rattle.rbc_disk.specs.Disk.{Disk, written}
-use Rattle.rbc_disk.specs.Requests.{is_eject, is_inquiry, is_outside, is_past, is_unfit, is_write, needs_medium, plain_request, request_of}
-use Rattle.rbc_disk.specs.Runs.{MayEnd, data_length_by, data_length_of, failure_of, medium_after, medium_ended, need_at, need_of}
-use Rattle.rbc_disk.specs.Units.{PlainDisk, has_place}
+use Rattle.rbc_disk.specs.Requests.{request_of}
+use Rattle.rbc_disk.specs.Runs.{data_length_by, data_length_of, failure_of, medium_after, medium_ended, need_at, need_of}
+use Rattle.rbc_disk.specs.Units.{PlainDisk}
 use Rattle.rbc_disk.specs.declared.command.BufferPlan.{BufferPlan}
 use Rattle.rbc_disk.specs.declared.command.Need.TheVariants.{Payload, RunNow}
-use Rattle.rbc_disk.specs.declared.request.Request.{Request}
 use Rattle.rbc_disk.specs.declared.request.Request.TheVariants as requests
+use Rattle.rbc_disk.proofs.ReadLemmas.{checked_leaves, fields_pass, request_inside, unchecked, within_blocks}
 use Rattle.script_words.specs.declared.verb.Form.TheVariants.{Ten}
 use Rattle.script_words.specs.Commands.{addressed_block}
 use Rattle.sbp_laws.specs.Actions.{buffer_of, out_buffer}
@@ -28,27 +25,12 @@ use Rattle.sbp_laws.specs.Terms.{data_of, plan_of}
 use Rattle.retry_queue.specs.Steps.{Submission, command_for, count_of}
 use Rattle.retry_queue.specs.Journals.{IsOf, IsSubmission}
 use Rattle.retry_queue.proofs.Cases.{take_whole}
+use Rattle.retry_queue.proofs.WriteBlocks.{write_ten}
 
 -- ---- the command block of a submission is a WRITE of its blocks
 
-allowed : (count : ℕ) (command : Command) → count ≤ 32 → unless_bad (nat_lt 32 count) command ≡ Ok command
-allowed count command few = by (nat_lt 32 count) refl
-  where
-    by : (t : Bool) → nat_lt 32 count ≡ t → unless_bad t command ≡ Ok command
-    by true e = let far = ltb-true 32 count e in absurd (omega arith)
-    by false e = refl
-
--- the command block's count as it is read
-ten : (make : ℕ → Command) (read count : ℕ) → count ≤ 32 → read ≡ count → plain_request (unless_bad (nat_lt 32 read) (make read)) ≡ Ok (requests.Plain (make count))
-ten make read count few e = subst (λ c. plain_request (unless_bad (nat_lt 32 c) (make c)) ≡ Ok (requests.Plain (make count))) (sym e) (ap plain_request (allowed count (make count) few))
-
 address_back : (lba count : ℕ) → lba < 2 ^ 32 → lba_of (addressed_block Ten 0x2A lba count) ≡ lba
 address_back lba count few = big_number-reads_back 4 lba (0 ∷ (big_bytes 2 count ++ (0 ∷ 0 ∷ 0 ∷ []))) (omega arith)
-
-writes_blocks : (is_bay : Bool) (lba count : ℕ) → count ≤ 32 → request_of is_bay (addressed_block Ten 0x2A lba count) ≡ Ok (requests.Plain (commands.Write (lba_of (addressed_block Ten 0x2A lba count)) count))
-unfolding request_of
-writes_blocks true lba count few = ten (commands.Write (lba_of (addressed_block Ten 0x2A lba count))) _ count few (big_number-reads_back 2 count (0 ∷ 0 ∷ 0 ∷ []) (omega arith))
-writes_blocks false lba count few = ten (commands.Write (lba_of (addressed_block Ten 0x2A lba count))) _ count few (big_number-reads_back 2 count (0 ∷ 0 ∷ 0 ∷ []) (omega arith))
 
 -- what is known of a submission's blocks
 pub record Blocks (w : Submission) : Type 0 where
@@ -65,53 +47,15 @@ blocks_of w s =
 
 asks_for : (is_bay : Bool) (w : Submission) → IsSubmission w.lba w.bytes → request_of is_bay (command_for w).cdb ≡ Ok (requests.Plain (commands.Write w.lba (count_of w)))
 asks_for is_bay w s =
-    writes_blocks is_bay w.lba (count_of w) (blocks_of w s).few ∙ ap (λ lba. Ok (requests.Plain (commands.Write lba (count_of w)))) (address_back w.lba (count_of w) s.address)
+    write_ten is_bay w.lba (count_of w) (blocks_of w s).few ∙ ap (λ lba. Ok (requests.Plain (commands.Write lba (count_of w)))) (address_back w.lba (count_of w) s.address)
 
 -- ---- no check: the blocks are inside the medium
-
-behind_check : (b : Bool) (check : Sense) (others : Option Sense) → check_if b check others ≡ None → others ≡ None
-behind_check true check others e = cc e
-behind_check false check others e = e
-
-behind_first : (first others : Option Sense) → first_of first others ≡ None → others ≡ None
-behind_first (Some check) others e = cc e
-behind_first None others e = e
-
-unset_check : (b : Bool) (check : Sense) (others : Option Sense) → check_if b check others ≡ None → b ≡ false
-unset_check true check others e = cc e
-unset_check false check others e = refl
-
-not_outside : (a b c d e f : Bool) (tray : Option Sense) (s t u v w x : Sense) → check_if a s (first_of tray (check_if b t (check_if c u (check_if d v (check_if e w (check_if f x None)))))) ≡ None → d ≡ false
-not_outside a b c d e f tray s t u v w x h =
-    unset_check d v (check_if e w (check_if f x None))
-    (behind_check c u (check_if d v (check_if e w (check_if f x None)))
-    (behind_check b t (check_if c u (check_if d v (check_if e w (check_if f x None))))
-    (behind_first tray (check_if b t (check_if c u (check_if d v (check_if e w (check_if f x None)))))
-    (behind_check a s (first_of tray (check_if b t (check_if c u (check_if d v (check_if e w (check_if f x None)))))) h))))
-
-request_inside : (request : Request) (buffer : BufferPlan) (plain : PlainDisk) → request_check request buffer plain ≡ None → is_outside request plain.medium.blocks ≡ false
-request_inside request buffer plain e =
-    not_outside (is_eject request && plain.unit.is_prevented) (needs_medium request && not plain.medium.is_present) (needs_medium request && not plain.unit.is_started) (is_outside request plain.medium.blocks) (is_write request && plain.medium.is_protected) (is_unfit request buffer)
-    (tray_check request plain.medium) removal_prevented no_medium not_started outside is_protected bad_field e
-
-fields_checked : (cdb : List ℕ) (buffer : BufferPlan) (plain : PlainDisk) (place : ℕ) → check_of cdb buffer plain place ≡ None → field_check (request_of plain.medium.is_bay cdb) buffer plain ≡ None
-unfolding check_of
-fields_checked cdb buffer plain place e =
-    behind_first (told_marks (is_inquiry (operation_in cdb)) (mark_check (has_place plain.unit.reset place) (has_place plain.unit.changed place))) (field_check (request_of plain.medium.is_bay cdb) buffer plain)
-    (behind_check (is_none (operation_in cdb)) no_command (first_of (told_marks (is_inquiry (operation_in cdb)) (mark_check (has_place plain.unit.reset place) (has_place plain.unit.changed place))) (field_check (request_of plain.medium.is_bay cdb) buffer plain)) e)
-
-within : (lba count blocks : ℕ) → is_past lba count blocks ≡ false → lba + count ≤ blocks
-within lba count blocks e = grind (arith, nat_tests)
 
 is_inside : (cdb : List ℕ) (buffer : BufferPlan) (plain : PlainDisk) (place lba count : ℕ) → request_of plain.medium.is_bay cdb ≡ Ok (requests.Plain (commands.Write lba count)) → check_of cdb buffer plain place ≡ None
     → lba + count ≤ plain.medium.blocks
 is_inside cdb buffer plain place lba count e h =
-    within lba count plain.medium.blocks
-    (request_inside (requests.Plain (commands.Write lba count)) buffer plain (sym (ap (λ r. field_check r buffer plain) e) ∙ fields_checked cdb buffer plain place h))
-
-unchecked : (check failure : Option Sense) → MayEnd check failure None → check ≡ None
-unchecked None failure e = refl
-unchecked (Some check) failure e = cc e
+    within_blocks lba count plain.medium.blocks
+    (request_inside (requests.Plain (commands.Write lba count)) buffer plain (sym (ap (λ r. field_check r buffer plain) e) ∙ fields_pass cdb buffer plain place h))
 
 -- ---- what is put
 
@@ -171,8 +115,4 @@ module _ (w : Submission) (s : IsSubmission w.lba w.bytes) (request : terms.Requ
 
 -- a run with a check puts nothing
 pub puts_nothing : (cdb bytes : List ℕ) (check : Sense) (medium : Disk) → medium_after cdb bytes (Some check) medium ≡ medium
-puts_nothing cdb bytes check medium = by (request_of medium.is_bay cdb)
-  where
-    by : (r : Result Request Sense) → medium_ended r bytes (Some check) medium ≡ medium
-    by (Ok request) = refl
-    by (Err refused) = refl
+puts_nothing cdb bytes check medium = checked_leaves (request_of medium.is_bay cdb) bytes check medium

@@ -13,7 +13,8 @@ use Rattle.sbp_laws.specs.OrderLaw.{OrderLaw}
 use Rattle.sbp_laws.specs.StatusLaw.{TakenAt}
 use Rattle.sbp_laws.specs.Terms.{Request, appends, ended_status, ends, ran_status, request_at, runs}
 use Rattle.sbp_laws.specs.Turns.{EachMoment}
-use Rattle.retry_queue.specs.Taking.{PlainAt, ran_good, takes_in}
+use Rattle.sbp_world.specs.Lists.TakenTurns.{takes_in}
+use Rattle.retry_queue.specs.Taking.{PlainAt, ran_good}
 use Rattle.retry_queue.proofs.Cases.{by_one, by_two, other}
 
 -- ---- what is known

@@ -7,8 +7,8 @@ use Rattle.retry_queue.specs.Steps.{Step, Submission, count_of, submissions, wor
 use Rattle.retry_queue.specs.Known.{known}
 use Rattle.retry_queue.specs.Taking.{all_good}
 use Rattle.retry_queue.specs.Journals.{IsDiskJournal}
-use Rattle.retry_queue.specs.Parts.{HoldsWrite, IsAllWritten, IsFrom, behind_all, covers, put_over}
-use Rattle.retry_queue.specs.Law.{AllIsWritten, BlocksAreDue, QueuesAreLawful}
+use Rattle.retry_queue.specs.Parts.{BlocksHold, HoldsWrite, IsAllWritten, IsFrom, behind_all, covers, put_over}
+use Rattle.retry_queue.specs.Law.{QueuesAreLawful}
 use Rattle.retry_queue.proofs.Asks.{sized}
 use Rattle.retry_queue.proofs.Blocks.{equal_blocks}
 use Rattle.retry_queue.proofs.Cases.{both_ways, none_is, some_is}
@@ -37,7 +37,7 @@ module _ (W : ℕ → Option Submission) (count : ℕ) (bytes now : List ℕ) (b
 below_done : (past : List Step) → PlacesAt past → (q : ℕ) → (known past).has q ≡ true → q < (known past).done
 below_done past places q e = let f : nat_lt q (known past).done ≡ true = sym (places.front q) ∙ e in grind (arith, nat_tests)
 
-pub blocks_are_due : BlocksAreDue
+blocks_are_due : (wild : ℕ → Bool) (start : List Disk) (bytes : List ℕ) (past : List Step) → IsDiskJournal wild start bytes past → all_good (world past) ≡ true → BlocksHold past (disk_at start 0) bytes
 blocks_are_due wild start bytes past j good =
     let lawful = lawful_journal wild start bytes past j in
     let h : HoldsAt start bytes past = held wild start j.tame bytes j.tells j.whole j.some past lawful in
@@ -154,11 +154,8 @@ module _ (wild : ℕ → Bool) (start : List Disk) (bytes : List ℕ) (past : Li
       (subst (λ o. HeldBy (write_at past) (submissions past) o block bytes (behind_all (write_at past) (submissions past) bytes))
       (last_is_owner (write_at past) block (submissions past) (owner past block) (λ p l c. owns p block l c) (owner_writes block less)) (last.each block less))
 
-  pub all_written : IsAllWritten past (disk_at start 0) bytes
+  all_written : IsAllWritten past (disk_at start 0) bytes
   all_written = holds.tells ∙ ap Some (equal_blocks (disk_at start 0).blocks holds.now (behind_all (write_at past) (submissions past) bytes) holds.whole last.whole same_block)
-
-pub all_is_written : AllIsWritten
-all_is_written wild start bytes past j all good = all_written wild start bytes past j all good
 
 pub queues_are_lawful : QueuesAreLawful
 queues_are_lawful wild start bytes past j =
@@ -168,6 +165,5 @@ queues_are_lawful wild start bytes past j =
       waits = dead_lists_wait past j.journal;
       front = order.front;
       blocks = blocks_are_due wild start bytes past j;
-      all = all_is_written wild start bytes past j;
-      told = record { made = j.journal.made; follows = j.journal.follows };
+      all = all_written wild start bytes past j;
     }

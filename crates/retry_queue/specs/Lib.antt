@@ -5,4 +5,14 @@ pub mod Taking
 pub mod Journals
 pub mod Parts
 pub mod Law
+pub mod Sessions
+pub mod Kept
+pub mod Notes
+pub mod Lines
+pub mod Texts
+pub mod Queues
+pub mod Heard
 pub mod Tried
+pub mod Entries
+pub mod Scripts
+pub mod Runs

@@ -9,7 +9,7 @@ use Rattle.sbp_laws.specs.Lists.{present_list}
 use Rattle.retry_queue.specs.Steps.{Step, of_world, Submission, command_for, count_of, world, EachStep, submissions, write_at}
 use Rattle.retry_queue.specs.Known.{known}
 use Rattle.retry_queue.specs.Taking.{all_good, is_unserved}
-use Rattle.retry_queue.specs.Journals.{FollowsAt, IsOf, MadeAt, medium}
+use Rattle.retry_queue.specs.Journals.{IsOf, medium}
 
 -- ---- the second part: consecutive submissions
 
@@ -73,16 +73,10 @@ behind_all write (suc q) bytes = put_over (write q) (behind_all write q bytes)
 abbrev pub IsAllWritten : List Step → Disk → List ℕ → Type 0
 IsAllWritten past disk bytes = (medium disk past).bytes ≡ Some (behind_all (write_at past) (submissions past) bytes)
 
--- ---- the sixth part: each pump does what its table says, and each status is told
-pub record AreTold (past : List Step) : Type 0 where
-  pub made : EachStep MadeAt past
-  pub follows : EachStep FollowsAt past
-
--- ---- the law, its second part to its sixth, over a medium that held these bytes at the start
+-- ---- the law, its second part to its fifth, over a medium that held these bytes at the start
 pub record QueueLaw (disk : Disk) (bytes : List ℕ) (past : List Step) : Type 0 where
   pub consecutive : EachStep ConsecutiveAt past
   pub waits : EachStep WaitsAt past
   pub front : AreFront past
   pub blocks : all_good (world past) ≡ true → BlocksHold past disk bytes
   pub all : (known past).done ≡ submissions past → all_good (world past) ≡ true → IsAllWritten past disk bytes
-  pub told : AreTold past

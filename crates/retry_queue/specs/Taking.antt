@@ -1,32 +1,16 @@
 -- What a queue needs of the statuses that its initiator takes, and of the runs of its ORBs, beyond the laws of lists: the statuses of a list
 -- are taken in the order of its ORBs, without a gap, and none behind one that is failed or illegal; without an abort and a dummy each is
 -- good, check, failed or illegal; and each run is on unit 0.
-use Rattle.std.specs.Prelude.{◌≡◌, ℕ, suc, ◌||◌, Bool, true, false, not, List, [], ◌∷◌, Some, None}
+use Rattle.std.specs.Prelude.{◌≡◌, ℕ, ◌||◌, Bool, true, false, not, List, [], ◌∷◌, Some, None}
 use Rattle.sbp_base.specs.Update.{upd2, upd3}
 use Rattle.orb_layout.specs.declared.status.StatusKind.{StatusKind}
 use Rattle.orb_layout.specs.declared.status.StatusKind.TheVariants as kinds
 use Rattle.sbp_journal.specs.Run.{Moment, said}
 use Rattle.sbp_journal.specs.declared.note.Note.TheVariants as notes
+use Rattle.sbp_world.specs.Lists.TakenTurns.{is_failed, takes_in}
 use Rattle.retry_queue.specs.Known.{is_final}
 
--- the statuses behind which the agent is dead
-abbrev pub is_deadly : StatusKind → Bool
-is_deadly (kinds.Illegal meaning) = true
-is_deadly kinds.Failed = true
-is_deadly _ = false
-
--- how many statuses of a list were taken, and whether one of them was failed or illegal
-abbrev pub takes_in : List Moment → ℕ → ℕ → ℕ
-takes_in [] = λ i n. 0
-takes_in (said (notes.Taken i n k status answer) ∷ past) = upd2 (takes_in past) i n (suc (takes_in past i n))
-takes_in (_ ∷ past) = takes_in past
-
-abbrev pub is_failed : List Moment → ℕ → ℕ → Bool
-is_failed [] = λ i n. false
-is_failed (said (notes.Taken i n k status answer) ∷ past) = upd2 (is_failed past) i n (is_failed past i n || is_deadly status)
-is_failed (_ ∷ past) = is_failed past
-
--- whether one of them was no status of a submission
+-- whether a status of a list that was taken was none of a submission
 abbrev pub is_unserved : List Moment → ℕ → ℕ → Bool
 is_unserved [] = λ i n. false
 is_unserved (said (notes.Taken i n k status answer) ∷ past) = upd2 (is_unserved past) i n (is_unserved past i n || not (is_final status))
