@@ -2,8 +2,8 @@
 # What a run over the bus costs, in instructions as valgrind counts them: a script of 10,000 lines, the drills of
 # 1,000 and 10,000 lines with their ratio, and a line at the beginning and at the end of a long script, beside few
 # packets in flight and beside 60,000 (a script has at most 65,536 lines; bench/store.sh goes to 100,000), which are
-# requests, or responses of one transaction. And the peak of the heap, by massif, of five nodes with WRITEs of 16 KiB
-# that wait.
+# requests, or responses of one transaction. A queue of 3,000 and of 10,000 writes, and a pump and its status behind
+# few submissions and behind 60,000. And the peak of the heap, by massif, of five nodes with WRITEs of 16 KiB that wait.
 # First build the program: cd crates/sbp2 && rt run -- run < stdin
 cd "$(dirname "$0")/.." || exit 1
 program=${1:-crates/sbp2/out/sbp2}
@@ -33,6 +33,21 @@ flights() {
     }'
 }
 
+# a queue: so many writes of one block, a pump each, and a settle behind each sixteenth
+queue() {
+    echo "begin 1 ready"
+    awk -v n="$1" 'BEGIN { for (i = 1; i <= n; i++) { print "submit " i % 64 " A5*512\npump"; if (i % 16 == 0) print "settle" } }'
+}
+
+# so many writes, and then so many pumps with a settle behind each sixteenth
+pumps() {
+    echo "begin 1 ready"
+    awk -v writes="$1" -v n="$2" 'BEGIN {
+        for (i = 1; i <= writes; i++) print "submit " i % 64 " A5*512"
+        for (i = 1; i <= n; i++) { print "pump"; if (i % 16 == 0) print "settle" }
+    }'
+}
+
 # WRITEs of 16 KiB that wait at four initiators, as many as they have slots
 writes() {
     echo "begin 4 ready"
@@ -58,6 +73,13 @@ pair() {
 }
 pair "a request" FFC00140FFC1FFFFF0000400
 pair "a response of one transaction" FFC00120FFC1000000000000
+
+for n in 3000 10000; do
+    printf 'a queue of %s writes: %s instructions\n' "$n" "$(queue "$n" | count queue)"
+done
+few=$(($(pumps 1600 1600 | count queue) - $(pumps 1600 800 | count queue)))
+many=$(($(pumps 60000 1600 | count queue) - $(pumps 60000 800 | count queue)))
+awk -v a="$few" -v b="$many" 'BEGIN { printf "a pump and its status: %d instructions behind 1,600 submissions, %d behind 60,000, ratio %.2f\n", a / 800, b / 800, b / a }'
 
 writes > "$work/writes"
 valgrind --tool=massif --massif-out-file="$work/massif" "$program" run < "$work/writes" > "$work/out" 2> "$work/log"

@@ -17,6 +17,10 @@ mod listing_tests;
 #[cfg(test)]
 mod long_tests;
 #[cfg(test)]
+mod queue_tests;
+#[cfg(test)]
+mod queue_texts;
+#[cfg(test)]
 mod scripts;
 #[cfg(test)]
 mod texts;

@@ -17,6 +17,7 @@ use Rattle.drill_text.specs.Summary.{summary_text}
 use Rattle.drill_text.specs.Tally.{TallyState}
 use Rattle.sbp_command.specs.Drill.{DrillEnds, DrillWrites, RanDrill, SumsFirst}
 use Rattle.sbp_command.specs.Headline.{ListingEnds, RomEnds, RunEnds, UsageEnds, status_of}
+use Rattle.sbp_command.specs.QueueEnds.{QueueEnds}
 use Rattle.sbp_command.specs.Served.{Serves}
 use Rattle.script_runner.specs.Events.{events_of, journal, numbered_from}
 use Rattle.script_runner.specs.Drilling.{Drilled}
@@ -97,7 +98,8 @@ serves_run words status before now e r = record {
   drill = λ seed count h. other_words words (codes "run") seed count e h;
   decode = λ h. apart words (codes "run") (codes "decode") refl e h;
   rom = λ h. apart words (codes "run") (codes "rom") refl e h;
-  others = λ run drill decode rom. absurd (run e);
+  queue = λ h. apart words (codes "run") (codes "queue") refl e h;
+  others = λ run drill decode rom queue. absurd (run e);
 }
 
 pub serves_decode : (words : List (List ℕ)) (status : CallStatus) (before now : Outside) → words ≡ codes "decode" ∷ [] → ListingEnds status before now → Serves words status before now
@@ -106,7 +108,8 @@ serves_decode words status before now e r = record {
   drill = λ seed count h. other_words words (codes "decode") seed count e h;
   decode = λ h. r;
   rom = λ h. apart words (codes "decode") (codes "rom") refl e h;
-  others = λ run drill decode rom. absurd (decode e);
+  queue = λ h. apart words (codes "decode") (codes "queue") refl e h;
+  others = λ run drill decode rom queue. absurd (decode e);
 }
 
 pub serves_rom : (words : List (List ℕ)) (status : CallStatus) (before now : Outside) → words ≡ codes "rom" ∷ [] → RomEnds status before now → Serves words status before now
@@ -115,7 +118,18 @@ serves_rom words status before now e r = record {
   drill = λ seed count h. other_words words (codes "rom") seed count e h;
   decode = λ h. apart words (codes "rom") (codes "decode") refl e h;
   rom = λ h. r;
-  others = λ run drill decode rom. absurd (rom e);
+  queue = λ h. apart words (codes "rom") (codes "queue") refl e h;
+  others = λ run drill decode rom queue. absurd (rom e);
+}
+
+pub serves_queue : (words : List (List ℕ)) (status : CallStatus) (before now : Outside) → words ≡ codes "queue" ∷ [] → QueueEnds status before now → Serves words status before now
+serves_queue words status before now e r = record {
+  run = λ h. apart words (codes "queue") (codes "run") refl e h;
+  drill = λ seed count h. other_words words (codes "queue") seed count e h;
+  decode = λ h. apart words (codes "queue") (codes "decode") refl e h;
+  rom = λ h. apart words (codes "queue") (codes "rom") refl e h;
+  queue = λ h. r;
+  others = λ run drill decode rom queue. absurd (queue e);
 }
 
 pub serves_drill : (words : List (List ℕ)) (seed count : ℕ) (status : CallStatus) (before now : Outside) → IsDrill words seed count → DrillEnds seed count status before now → Serves words status before now
@@ -124,14 +138,16 @@ serves_drill words seed count status before now d r = record {
   drill = λ other more h. same_drill words seed count other more status before now d h r;
   decode = λ h. other_words words (codes "decode") seed count h d;
   rom = λ h. other_words words (codes "rom") seed count h d;
-  others = λ run drill decode rom. absurd (drill seed count d);
+  queue = λ h. other_words words (codes "queue") seed count h d;
+  others = λ run drill decode rom queue. absurd (drill seed count d);
 }
 
-pub serves_usage : (words : List (List ℕ)) (status : CallStatus) (before now : Outside) → ¬ (words ≡ codes "run" ∷ []) → ¬ (words ≡ codes "decode" ∷ []) → ¬ (words ≡ codes "rom" ∷ []) → ((seed count : ℕ) → ¬ IsDrill words seed count) → UsageEnds status before now → Serves words status before now
-serves_usage words status before now run decode rom drill r = record {
+pub serves_usage : (words : List (List ℕ)) (status : CallStatus) (before now : Outside) → ¬ (words ≡ codes "run" ∷ []) → ¬ (words ≡ codes "decode" ∷ []) → ¬ (words ≡ codes "rom" ∷ []) → ¬ (words ≡ codes "queue" ∷ []) → ((seed count : ℕ) → ¬ IsDrill words seed count) → UsageEnds status before now → Serves words status before now
+serves_usage words status before now run decode rom queue drill r = record {
   run = λ h. absurd (run h);
   drill = λ seed count h. absurd (drill seed count h);
   decode = λ h. absurd (decode h);
   rom = λ h. absurd (rom h);
-  others = λ a b c d. r;
+  queue = λ h. absurd (queue h);
+  others = λ a b c d e. r;
 }

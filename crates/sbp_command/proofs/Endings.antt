@@ -51,9 +51,11 @@ tells start media served text state h =
     let count = h.count in
     tells_by start media (of_lines served).events text state.world (omega (arith, few, count)) h.stands
 
+-- a front of a list is its first elements
+pub front_events : {A : Type 0} (front more all : List A) → all ≡ front ++ more → front ≡ take (length front) all
+front_events front more all e = sym (ap (take (length front)) e ∙ take-append_seam front more)
+
 -- the first events of the input
-front_events : (happened more all : List (ℕ × Event)) → all ≡ happened ++ more → happened ≡ take (length happened) all
-front_events happened more all e = sym (ap (take (length happened)) e ∙ take-append_seam happened more)
 
 first_events : (served others : List (List ℕ)) (input : List ℕ) → (of_lines served).fault ≡ None → lines input ≡ served ++ others → (of_lines served).events ≡ take (length (of_lines served).events) (script input).events
 first_events served [] input clean e = front_events (of_lines served).events [] (script input).events (ap (λ ls. (of_lines ls).events) (e ∙ append-nil served) ∙ sym (append-nil _))

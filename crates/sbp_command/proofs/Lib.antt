@@ -6,3 +6,7 @@ mod Roms
 mod Words
 mod Media
 mod Forms
+mod QueueScripts
+mod QueueFits
+mod QueueRunning
+mod QueueEndings

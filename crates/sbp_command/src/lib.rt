@@ -2,6 +2,7 @@
 #![tactic(auto)]
 
 mod drill;
+mod queue;
 mod status;
 mod top;
 

@@ -44,7 +44,7 @@ use Rattle.script_runner.proofs.OwnIds.{AreAtMost, HasOwn, ids_apart, is_line}
 
 -- ---- words
 
-then_fits : {A B : Type 0} (P : B → Type 0) (r : Result A LineFault) (f : A → Result B LineFault) → ((a : A) → r ≡ Ok a → IfOk (f a) P) → IfOk (r >>= f) P
+pub then_fits : {A B : Type 0} (P : B → Type 0) (r : Result A LineFault) (f : A → Result B LineFault) → ((a : A) → r ≡ Ok a → IfOk (f a) P) → IfOk (r >>= f) P
 then_fits P (Ok a) f k = k a refl
 then_fits P (Err fault) f k = tt
 
@@ -52,12 +52,12 @@ chosen_is : {A : Type 0} (t : Bool) (a b : A) (fault : LineFault) → cond t (Ok
 chosen_is true a b fault e = (refl, cc e)
 chosen_is false a b fault e = absurd (cc e)
 
-both : (a b : Bool) → (a && b) ≡ true → (a ≡ true) × (b ≡ true)
+pub both : (a b : Bool) → (a && b) ≡ true → (a ≡ true) × (b ≡ true)
 both true b e = (refl, e)
 both false b e = absurd (cc e)
 
 -- a number that was read is in its range
-within : (low high k : ℕ) (word : List ℕ) → number low high word ≡ Ok k → (low ≤ k) × (k ≤ high)
+pub within : (low high k : ℕ) (word : List ℕ) → number low high word ≡ Ok k → (low ≤ k) × (k ≤ high)
 within low high k word e =
     let c = chosen_is (is_between low high word) (value word) k faults.Range e in
     let b = both (nat_le low (value word)) (nat_le (value word) high) c.0 in
@@ -102,19 +102,20 @@ plain_verifying (lba ∷ []) = tt
 plain_verifying (lba ∷ count ∷ tail) =
     then_fits IsPlain (number 0 4294967295 lba) _ (λ l e. then_fits IsPlain (number 0 32 count) _ (λ n k. plain_bringing (addressed_block Ten 0x2F l n) 0 (addressed_length Ten 0x2F l n) (omega arith) (verifies l n)))
 
--- the bytes of a write are whole blocks, 32 at most
-record AreBlocks (bytes : List ℕ) : Type 0 where
-  whole : length bytes % 512 ≡ 0
-  few : length bytes ≤ 16384
+-- the bytes of a write are whole blocks, one to 32 of them
+pub record AreBlocks (bytes : List ℕ) : Type 0 where
+  pub whole : length bytes % 512 ≡ 0
+  pub some : 512 ≤ length bytes
+  pub few : length bytes ≤ 16384
 
-are_blocks : (ps : List (List ℕ)) (bytes : List ℕ) → bytes_of ps ≡ Ok bytes → AreBlocks bytes
+pub are_blocks : (ps : List (List ℕ)) (bytes : List ℕ) → bytes_of ps ≡ Ok bytes → AreBlocks bytes
 are_blocks ps bytes e =
     let all = flat_map piece_bytes ps in
     let c = chosen_is (list_all has_count ps && is_whole (length all)) all bytes faults.Range e in
     let whole = (both (list_all has_count ps) (is_whole (length all)) c.0).1 in
     let parts = both (length all % 512 == 0 && nat_le 512 (length all)) (nat_le (length all) 16384) whole in
-    let blocks = (both (length all % 512 == 0) (nat_le 512 (length all)) parts.0).0 in
-    subst AreBlocks c.1 (record { whole = eqb-true (length all % 512) 0 blocks; few = leb-true (length all) 16384 parts.1 })
+    let blocks = both (length all % 512 == 0) (nat_le 512 (length all)) parts.0 in
+    subst AreBlocks c.1 (record { whole = eqb-true (length all % 512) 0 blocks.0; some = leb-true 512 (length all) blocks.1; few = leb-true (length all) 16384 parts.1 })
 
 plain_writing : (form : Form) (opcode : ℕ) (ws : List (List ℕ)) → ((is_bay : Bool) (lba count : ℕ) → count ≤ 32 → data_length_of is_bay (addressed_block form opcode lba count) ≡ 512 * count) → IfOk (writing_blocks form opcode ws) IsPlain
 plain_writing form opcode [] d = tt

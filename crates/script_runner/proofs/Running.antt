@@ -184,7 +184,7 @@ began_ran before after i units ready start media happened front out next number 
 -- ---- one more line
 
 -- the lines are as many as the number of the last one
-served_few : (served : List (List ℕ)) (line : List ℕ) (number : ℕ) → number ≡ 1 + length served → number ≤ 65536 → length (served ++ line ∷ []) ≤ 65536
+pub served_few : (served : List (List ℕ)) (line : List ℕ) (number : ℕ) → number ≡ 1 + length served → number ≤ 65536 → length (served ++ line ∷ []) ≤ 65536
 served_few served line number e few = let more = length-append served (line ∷ []) in omega (arith, more, e, few)
 
 -- the event of a line may happen

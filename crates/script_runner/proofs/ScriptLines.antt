@@ -3,7 +3,7 @@ use Rattle.std.proofs.Common.{◌≡◌, ◌≢◌, ◌∙◌, refl, sym, ap, �
 use Rattle.std.proofs.lemmas.Bool.{le-ltb}
 use Rattle.sbp_journal.specs.declared.event.Event.{Event}
 use Rattle.script_text.specs.Line.{reading}
-use Rattle.script_text.specs.Script.{Script, initiators_after, line_says, numbered, onto_script, script_from}
+use Rattle.script_text.specs.Script.{Script, fault_number, initiators_after, line_says, numbered, onto_script, script_from}
 use Rattle.script_words.specs.declared.fault.LineFault.{LineFault as ScriptFault}
 use Rattle.script_words.specs.declared.fault.LineFault.TheVariants as script_faults
 use Rattle.line_session.specs.Lines.{limit_fault, too_many, too_long}
@@ -89,20 +89,20 @@ served-fault served line others fault h e =
 
 -- ---- lines within their limits, and others
 
-within_cases : (many : Bool) (read : Result (Option Event) ℕ) → many ≡ false → (if many then Err too_many else read) ≡ read
+pub within_cases : {A : Type 0} (many : Bool) (read : Result A ℕ) → many ≡ false → (if many then Err too_many else read) ≡ read
 within_cases true read e = cc e
 within_cases false read e = refl
 
 pub says-within : (n i : ℕ) (line : List ℕ) → n ≤ 65536 → says n i line ≡ heard i line
 says-within n i line few = within_cases (nat_lt 65536 n) (numbered (reading line i)) (le-ltb 65536 n few)
 
-reading-long : (line : List ℕ) (initiators : ℕ) → nat_lt 8192 (length line) ≡ true → reading line initiators ≡ Err script_faults.TooLong
+pub reading-long : (line : List ℕ) (initiators : ℕ) → nat_lt 8192 (length line) ≡ true → reading line initiators ≡ Err script_faults.TooLong
 reading-long line initiators e = rw e refl
 
 heard-long : (i : ℕ) (line : List ℕ) → nat_lt 8192 (length line) ≡ true → numbered (reading line i) ≡ Err too_long
 heard-long i line e = ap numbered (reading-long line i e)
 
-refused_cases : (many long : Bool) (read : Result (Option Event) ℕ) (fault : ℕ) → (long ≡ true → read ≡ Err too_long)
+pub refused_cases : {A : Type 0} (many long : Bool) (read : Result A ℕ) (fault : ℕ) → (long ≡ true → read ≡ Err too_long)
     → RefusedFor (if many then Some too_many else if long then Some too_long else None) ((if many then Err too_many else read) ≡ Err fault) fault
     → (if many then Err too_many else read) ≡ Err fault
 refused_cases true long read fault h r = ap Err (sym r)
@@ -115,16 +115,21 @@ refused-says n i line fault r = refused_cases (nat_lt 65536 n) (nat_lt 8192 (len
 
 -- ---- the errors of lines
 
-abbrev read_error : ScriptFault → Result (Option Event) ScriptFault
+abbrev pub read_error : {A : Type 0} → ScriptFault → Result A ScriptFault
 read_error fault = Err fault
 
+-- a fault that was read is told by its number
+pub hears_fault : {A B : Type 0} (fault : ScriptFault) (numbers : Result A ScriptFault → Result (Option B) ℕ) (read : Result A ScriptFault) → ((other : ScriptFault) → numbers (Err other) ≡ Err (fault_number other))
+    → (read_error {A = A} fault ≢ Err script_faults.NoMemory → read_error fault ≡ read) → Hears (Err (error_of fault)) (numbers read)
+hears_fault script_faults.TooLong numbers read by h = ap numbers (sym (h (λ e. absurd (cc)))) ∙ by script_faults.TooLong
+hears_fault script_faults.Unknown numbers read by h = ap numbers (sym (h (λ e. absurd (cc)))) ∙ by script_faults.Unknown
+hears_fault script_faults.Shape numbers read by h = ap numbers (sym (h (λ e. absurd (cc)))) ∙ by script_faults.Shape
+hears_fault script_faults.Range numbers read by h = ap numbers (sym (h (λ e. absurd (cc)))) ∙ by script_faults.Range
+hears_fault script_faults.Place numbers read by h = ap numbers (sym (h (λ e. absurd (cc)))) ∙ by script_faults.Place
+hears_fault script_faults.NoInitiator numbers read by h = ap numbers (sym (h (λ e. absurd (cc)))) ∙ by script_faults.NoInitiator
+hears_fault script_faults.Byte numbers read by h = ap numbers (sym (h (λ e. absurd (cc)))) ∙ by script_faults.Byte
+hears_fault script_faults.NoMemory numbers read by h = tt
+
 -- the fault of a line that was read
-pub hears : (fault : ScriptFault) (i : ℕ) (line : List ℕ) → (read_error fault ≢ Err script_faults.NoMemory → read_error fault ≡ reading line i) → Hears (Err (error_of fault)) (heard i line)
-hears script_faults.TooLong i line h = ap numbered (sym (h (λ e. absurd (cc))))
-hears script_faults.Unknown i line h = ap numbered (sym (h (λ e. absurd (cc))))
-hears script_faults.Shape i line h = ap numbered (sym (h (λ e. absurd (cc))))
-hears script_faults.Range i line h = ap numbered (sym (h (λ e. absurd (cc))))
-hears script_faults.Place i line h = ap numbered (sym (h (λ e. absurd (cc))))
-hears script_faults.NoInitiator i line h = ap numbered (sym (h (λ e. absurd (cc))))
-hears script_faults.Byte i line h = ap numbered (sym (h (λ e. absurd (cc))))
-hears script_faults.NoMemory i line h = tt
+pub hears : (fault : ScriptFault) (i : ℕ) (line : List ℕ) → (read_error {A = Option Event} fault ≢ Err script_faults.NoMemory → read_error fault ≡ reading line i) → Hears (Err (error_of fault)) (heard i line)
+hears fault i line h = hears_fault fault numbered (reading line i) (λ other. refl) h

@@ -31,7 +31,7 @@ error_of script_faults.NoMemory = NoMemory
 error_of fault = Fault (fault_number fault)
 
 -- an answer gives that, unless memory was wanting
-abbrev pub Hears : Result (Option Event) LineError → Result (Option Event) ℕ → Type 0
+abbrev pub Hears : {A : Type 0} → Result (Option A) LineError → Result (Option A) ℕ → Type 0
 Hears (Ok said) read = read ≡ Ok said
 Hears (Err (Fault fault)) read = read ≡ Err fault
 Hears (Err NoMemory) read = Unit {0}

@@ -9,4 +9,4 @@ mod typed;
 
 pub use drill::tally_drill;
 pub use runner::{ScriptRunner, serve_script};
-pub use script::read_event;
+pub use script::{line_error, read_event};

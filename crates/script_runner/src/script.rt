@@ -10,7 +10,7 @@ use script_text::LineFault;
 use std::alloc::Global;
 
 /// Why a line of a script gives nothing: its fault has the number by which it is told.
-fn line_error(fault: LineFault) -> LineError
+pub fn line_error(fault: LineFault) -> LineError
     ensures { result ≡ error_of fault }
 {
     match fault {
