@@ -1,5 +1,6 @@
-ghost use Rattle.std.specs.Prelude.{◌≡◌, ◌+◌, ◌*◌, ◌≤◌, ◌<◌, ◌^◌, length, IfSome};
-ghost use Rattle.page_table.specs.Buffer.{AreSegments, chunk_from, bytes_of};
+ghost use Rattle.std.specs.Prelude.{◌≡◌, ℕ, ◌+◌, ◌-◌, ◌≤◌, ◌<◌, min, length, slice_index_or, Some};
+ghost use Rattle.std.specs.List.Sorted.{IsNonDecreasingBy};
+ghost use Rattle.page_table.specs.Buffer.{IsSegment, chunk};
 
 use sbp_base::Offset;
 
@@ -17,37 +18,26 @@ pub struct Chunk {
     pub length: u16,
 }
 
-/// The bytes of the segments.
-pub(crate) fn total_of(segments: &[Segment]) -> u32
-    requires room { length segments.now ≤ 64 }
-    requires sound { AreSegments segments.now }
-    ensures total { result ≡ bytes_of segments.now }
-    ensures small { result ≤ 65535 * length segments.now }
+/// The first segment that ends behind so many bytes of the buffer, by where each ends; as many as there
+/// are where none does.
+pub(crate) fn place_of(ends: &[u32], done: u32) -> usize
+    requires { IsNonDecreasingBy (λ (end : ℕ). end) ends.now }
+    ensures bound { result ≤ length ends.now }
+    ensures before { (k : ℕ) → k < result → slice_index_or ends.now k 0 ≤ done }
+    ensures here { result < length ends.now → done < slice_index_or ends.now result 0 }
 {
-    match segments {
-        [] => 0,
-        [first, rest @ ..] => u32::from(first.length) + total_of(rest),
-    }
+    ends.partition_point(|end| *end <= done)
 }
 
-/// The chunk that begins `done` bytes into the segments, with at most `limit` bytes.
-pub(crate) fn chunk_at(segments: &[Segment], done: u32, limit: u16) -> Option<Chunk>
-    requires { AreSegments segments.now }
-    ensures chunk { result ≡ chunk_from segments.now done limit }
-    ensures few { IfSome result (λ chunk. chunk.length ≤ limit) }
-    ensures some { IfSome result (λ chunk. 0 < limit → 0 < chunk.length) }
+/// The chunk that begins `done` bytes into a segment: it ends with the segment and has at most `limit`
+/// bytes.
+pub(crate) fn chunk_in(segment: &Segment, done: u16, limit: u16) -> Option<Chunk>
+    requires segment { IsSegment segment.now }
+    requires inside { done < segment.now.length }
+    ensures { result ≡ Some (chunk (segment.now.base + done) (min limit (segment.now.length - done))) }
 {
-    match segments {
-        [] => None,
-        [first, rest @ ..] => {
-            if done < u32::from(first.length) {
-                Some(Chunk {
-                    offset: Offset::new(first.base + u64::from(done))?,
-                    length: limit.min(first.length - done as u16),
-                })
-            } else {
-                chunk_at(rest, done - u32::from(first.length), limit)
-            }
-        }
-    }
+    Some(Chunk {
+        offset: Offset::new(segment.base + u64::from(done))?,
+        length: limit.min(segment.length - done),
+    })
 }

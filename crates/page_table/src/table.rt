@@ -4,7 +4,7 @@ ghost use Rattle.page_table.specs.Elements.{elements_of, elements_from, first_fa
 
 use crate::fault::PageFault;
 use crate::read::{element_at, fault_from};
-use crate::segment::{Chunk, Segment, chunk_at, total_of};
+use crate::segment::{Chunk, Segment, chunk_in, place_of};
 use arrayvec::ArrayVec;
 use sbp_base::Offset;
 use std::marker::Model;
@@ -13,18 +13,21 @@ use std::marker::Model;
 #[derive(Drop)]
 pub struct SegmentTable {
     segments: ArrayVec<Segment, 64>,
+    /// How many bytes of the buffer there are up to the end of each segment.
+    ends: ArrayVec<u32, 64>,
 }
 
 impl Model for SegmentTable {
-    ghost use Rattle.std.specs.Prelude.{List};
+    ghost use Rattle.std.specs.Prelude.{◌≡◌, List};
     ghost use Rattle.page_table.specs.Buffer.{AreSegments};
+    ghost use Rattle.page_table.specs.Ends.{ends_from};
     ghost use Rattle.page_table.specs.declared.segment.Segment.{Segment};
 
     ghost Value = { List Segment };
 
     ghost view = { λ table. table.segments.items };
 
-    ghost invariant = { λ table. AreSegments table.segments.items };
+    ghost invariant = { λ table. AreSegments table.segments.items × (table.ends.items ≡ ends_from 0 table.segments.items) };
 }
 
 impl SegmentTable {
@@ -34,6 +37,7 @@ impl SegmentTable {
     {
         SegmentTable {
             segments: ArrayVec::new(),
+            ends: ArrayVec::new(),
         }
     }
 
@@ -56,12 +60,15 @@ impl SegmentTable {
     pub fn total(&self) -> u32
         ensures { result ≡ bytes_of self.now }
     {
-        total_of(self.segments.as_slice())
+        match self.ends.as_slice() {
+            [.., end] => *end,
+            [] => 0,
+        }
     }
 
     /// The chunk that begins `done` bytes into the buffer: it ends with its segment and has at most
     /// `limit` bytes. There is none exactly at the buffer's end.
-    #[tactic(auto, using(crate::proofs::Chunks::none_at_end))]
+    #[tactic(auto, using(crate::proofs::Ends::ends_length, crate::proofs::Ends::rises))]
     pub fn next_chunk(&self, done: u32, limit: u16) -> Option<Chunk>
         requires within { done ≤ bytes_of self.now }
         requires some { 4 ≤ limit }
@@ -70,7 +77,13 @@ impl SegmentTable {
         ensures few { IfSome result (λ chunk. chunk.length ≤ limit) }
         ensures some { IfSome result (λ chunk. 0 < chunk.length) }
     {
-        chunk_at(self.segments.as_slice(), done, limit)
+        let at = place_of(self.ends.as_slice(), done);
+        if at == self.segments.len() {
+            return None;
+        }
+        let segment = self.segments.as_slice()[at];
+        let left = self.ends.as_slice()[at] - done;
+        chunk_in(&segment, segment.length - left as u16, limit)
     }
 
     /// Removes all segments.
@@ -78,6 +91,7 @@ impl SegmentTable {
         ensures { self.new ≡ [] }
     {
         self.segments.clear();
+        self.ends.clear();
     }
 
     /// Adds a segment behind the others.
@@ -86,7 +100,9 @@ impl SegmentTable {
         requires sound { IsSegment segment }
         ensures { self.new ≡ self.old ++ segment ∷ [] }
     {
+        let end = self.total() + u32::from(segment.length);
         self.segments.push(segment);
+        self.ends.push(end);
     }
 
     /// Adds the elements of a page table without a fault, from element `at` on.
