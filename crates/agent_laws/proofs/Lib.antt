@@ -4,3 +4,4 @@ pub mod Ahead
 pub mod Lists
 pub mod Order
 pub mod Along
+pub mod Counting

@@ -6,3 +6,4 @@ pub mod Wire
 pub mod Bells
 pub mod Deaths
 pub mod Along
+pub mod Counting

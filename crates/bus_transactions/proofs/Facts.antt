@@ -6,6 +6,7 @@ use Rattle.async_packet.specs.Reading.{reading}
 use Rattle.label_table.specs.Requests.{label_of, is_write}
 use Rattle.sbp_journal.specs.Transactions.{Kind, Part, request, response, no_packet, part_of, is_to, Transaction, is_same, Sending, between, asked_as, asked_by, begun_if, begun_by, belongs_as, is_that, belongs}
 use Rattle.sbp_journal.specs.Wire.{Terms, Flight, Held, waits}
+use Rattle.bus_transactions.specs.Reached.{IsAwaited}
 use Rattle.bus_transactions.proofs.Follows.{is_live}
 use Rattle.bus_transactions.proofs.Ties.{Tie}
 
@@ -207,3 +208,19 @@ module _ {t : Terms} (f : Facts t) where
           let a = f.asked u (subst (λ n. 0 < n) (sym is) (zero_not s q e)) in
           let same : a.packet ≡ q = some_same (t.sent s) a.packet q (subst (λ n. t.sent n ≡ Some a.packet) is a.sent_is) e in
           absurd (other (subst (λ x. begun_by x ≡ Some u) same a.begun))
+
+  -- the request that a label waits for
+  pub awaited : (u : Transaction) (kind : Kind) (s : ℕ) → t.held u ≡ waits kind s → IsAwaited t u kind s
+  awaited u kind s e =
+      let now = (f.tie u).waiting kind s e in
+      let a = f.asked u (subst (λ n. 0 < n) now.0 now.1) in
+      let k = f.waiting_kind u kind s e in
+      let sent : t.sent s ≡ Some a.packet = ap t.sent now.0 ∙ a.sent_is in
+      let same = some_same (t.sent s) k.packet a.packet k.sent_is sent in
+      record {
+        current = now.0;
+        packet = a.packet;
+        sent = sent;
+        begun = a.begun;
+        part = subst (λ (x : Sending). part_of x.bytes ≡ request u.label kind) same k.part;
+      }

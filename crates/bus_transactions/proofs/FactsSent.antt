@@ -11,7 +11,7 @@ use Rattle.bus_transactions.proofs.Ties.{Tie, tie_counts, tie_begins, tie_weaker
 use Rattle.bus_transactions.proofs.Facts.{fair, both, IsAsked, Honest, Flies, Counts, IsKind, IsReply, Facts, both_fair, nat_same, nat_apart, nat_above, some_same, response_asked, none_begun, begun_belongs, reply_belongs}
 
 -- what was sent stays
-sent_kept : {t : Terms} → Facts t → (q : Sending) (r : ℕ) (p : Sending) (b : Bool) → nat_eq r (t.count + 1) ≡ b → t.sent r ≡ Some p → cond b (Some q) (t.sent r) ≡ Some p
+pub sent_kept : {t : Terms} → Facts t → (q : Sending) (r : ℕ) (p : Sending) (b : Bool) → nat_eq r (t.count + 1) ≡ b → t.sent r ≡ Some p → cond b (Some q) (t.sent r) ≡ Some p
 sent_kept f q r p false i e = e
 sent_kept {t} f q r p true i e =
     let is : r ≡ t.count + 1 = grind arith in

@@ -146,7 +146,7 @@ unfolding judged
 rcode_at filter bytes None e = cc
 rcode_at filter bytes (Some n) e = rcode_by (is_write bytes) _ _ (sym (again_by (is_write bytes) _ _) ∙ e)
 
-kind_is : (a b : Kind) → kind_as a ≡ kind_as b → is_same_kind a b ≡ true
+pub kind_is : (a b : Kind) → kind_as a ≡ kind_as b → is_same_kind a b ≡ true
 kind_is writing writing e = refl
 kind_is writing reading_quadlet e = cc
 kind_is writing reading_block e = cc

@@ -29,3 +29,6 @@ pub mod Fits
 pub mod FitSteps
 pub mod FitJudged
 pub mod FitCalls
+pub mod CarriedSteps
+pub mod Carried
+pub mod Latest

@@ -1,6 +1,6 @@
 -- A node answers the request that it has judged.
 use Rattle.bus_transactions.proofs.ServedFacts.{Served, served_paid}
-use Rattle.bus_transactions.specs.Answers.{IsSentFor}
+use Rattle.bus_transactions.specs.Answers.{IsOwed, IsSentFor}
 use Rattle.bus_transactions.specs.Sent.{IsOwn}
 use Rattle.std.specs.Prelude.{◌≡◌, ℕ, ◌+◌, ◌<◌, nat_eq, Bool, true, false, cond, List, Some, None, Ok, refl}
 use Rattle.std.proofs.Common.{arith, sym, ◌∙◌, ap, subst}
@@ -171,7 +171,7 @@ module _ (w : Wire) (h : Stands w) (d : Due) (rcode : ℕ) (given : List ℕ) (o
       serial_one : {m n : ℕ} → Some m ≡ Some n → m ≡ n
       serial_one e = cc
 
-  terms_are : sends (next_serial w) (marked T (next_serial w) q (T.injected (next_serial w))) T ≡ puts_at T q T.injects (upd T.answers (T.count + 1) (Some due.owed.serial)) (at T.given v rcode) None
+  pub terms_are : sends (next_serial w) (marked T (next_serial w) q (T.injected (next_serial w))) T ≡ puts_at T q T.injects (upd T.answers (T.count + 1) (Some due.owed.serial)) (at T.given v rcode) None
   terms_are =
       let serial : next_serial w ≡ T.count + 1 = ap (λ x. x + 1) (last_is o.follows) in
       let fresh = o.facts.unsent (next_serial w) (omega arith) in
@@ -226,8 +226,8 @@ module _ (w : Wire) (h : Stands w) (d : Due) (rcode : ℕ) (given : List ℕ) (o
       apart : {l m : ℕ} {k n : Kind} → response l k ≡ request m n → ⊥
       apart e = cc
 
-  pub answered_owed : is_reply d.reply rcode ≡ true → (b : Bool) → IsSentFor T.owes T (record { generation = (w.layer i).generation; from = i; to = j; bytes = canon p; injected = b })
-  answered_owed stated b = subst (λ x. IsSentFor x T (record { generation = (w.layer i).generation; from = i; to = j; bytes = canon p; injected = b })) (sym due.owes_is) (record {
+  pub pays_owed : is_reply d.reply rcode ≡ true → (b : Bool) → IsOwed T due.owed (record { generation = (w.layer i).generation; from = i; to = j; bytes = canon p; injected = b })
+  pays_owed stated b = record {
     asking = d.request;
     sent = ap T.sent due.serial_is ∙ due.sent_is;
     responds = record {
@@ -240,7 +240,10 @@ module _ (w : Wire) (h : Stands w) (d : Due) (rcode : ℕ) (given : List ℕ) (o
       to = refl;
     };
     stated = subst (λ x. is_stated due.owed.cause (T.given v) x ≡ true) (packet_is.rcode_is (canon p) (canon_spells p valid)) (due.stated rcode stated);
-  })
+  }
+
+  pub answered_owed : is_reply d.reply rcode ≡ true → (b : Bool) → IsSentFor T.owes T (record { generation = (w.layer i).generation; from = i; to = j; bytes = canon p; injected = b })
+  answered_owed stated b = subst (λ x. IsSentFor x T (record { generation = (w.layer i).generation; from = i; to = j; bytes = canon p; injected = b })) (sym due.owes_is) (pays_owed stated b)
 
 pub move_answer : (w : Wire) → Stands w → (rcode : ℕ) (given : List ℕ) → MayAnswer w rcode given → Stands (moved (answer rcode given) w)
 move_answer w h rcode given may =

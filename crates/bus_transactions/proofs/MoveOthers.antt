@@ -245,11 +245,11 @@ module _ (w : Wire) (h : Stands w) (i : ℕ) (idle : w.due ≡ None) where
       }))
 
 -- ---- a line begins
-record Opens (event : Event) (t : Terms) : Type 0 where
-  repeats : Bool
-  is : opened event t ≡ record t { repeats = repeats }
+pub record Opens (event : Event) (t : Terms) : Type 0 where
+  pub repeats : Bool
+  pub is : opened event t ≡ record t { repeats = repeats }
 
-opens : (event : Event) (t : Terms) → is_reset event ≡ false → Opens event t
+pub opens : (event : Event) (t : Terms) → is_reset event ≡ false → Opens event t
 opens (events.Reset physical) t e = cc
 opens (events.Repeat s) t e = record { repeats = true; is = refl }
 opens _ t e = record { repeats = false; is = refl }

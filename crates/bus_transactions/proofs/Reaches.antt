@@ -1,17 +1,17 @@
 -- How a world goes on by moves.
-use Rattle.std.specs.Prelude.{◌≡◌, ℕ, ◌<◌, [], ◌∷◌, Some, refl}
-use Rattle.std.proofs.Common.{arith, sym, ◌∙◌, ap, subst}
+use Rattle.std.specs.Prelude.{◌≡◌, ℕ, [], ◌∷◌, Some, refl}
+use Rattle.std.proofs.Common.{arith, sym, ap, subst}
 use Rattle.packet_store.specs.declared.sent.Sent.{Sent}
 use Rattle.packet_store.specs.Kept.{found, found_sent, is_flying}
 use Rattle.packet_store.specs.Stored.{Stored}
 use Rattle.packet_store.proofs.Calls.{whole_law}
-use Rattle.sbp_journal.specs.Transactions.{Kind, request, part_of, Transaction, Sending}
-use Rattle.sbp_journal.specs.Wire.{Terms, terms, waits}
+use Rattle.sbp_journal.specs.Transactions.{Kind, Transaction, Sending}
+use Rattle.sbp_journal.specs.Wire.{terms, waits}
 use Rattle.bus_transactions.specs.Wire.{Wire}
 use Rattle.bus_transactions.specs.Moves.{Move, moved}
 use Rattle.bus_transactions.specs.May.{May, Always}
 use Rattle.bus_transactions.specs.Reached.{Reached, IsAwaited, IsOf, GoesOn}
-use Rattle.bus_transactions.proofs.Facts.{some_same}
+use Rattle.bus_transactions.proofs.Facts.{awaited}
 use Rattle.bus_transactions.proofs.Stands.{Stands}
 use Rattle.bus_transactions.proofs.MoveOthers.{settled}
 use Rattle.bus_transactions.proofs.All.{all_stand}
@@ -48,21 +48,7 @@ goes_packets w s q r e =
     }
 
 goes_awaited : (w : Wire) (u : Transaction) (kind : Kind) (s : ℕ) → Reached w → (terms w.past).held u ≡ waits kind s → IsAwaited (terms w.past) u kind s
-goes_awaited w u kind s r e =
-    let t : Terms = terms w.past in
-    let f = (stands w r).facts in
-    let now = (f.tie u).waiting kind s e in
-    let a = f.asked u (subst (λ n. 0 < n) now.0 now.1) in
-    let k = f.waiting_kind u kind s e in
-    let sent : t.sent s ≡ Some a.packet = ap t.sent now.0 ∙ a.sent_is in
-    let same = some_same (t.sent s) k.packet a.packet k.sent_is sent in
-    record {
-      current = now.0;
-      packet = a.packet;
-      sent = sent;
-      begun = a.begun;
-      part = subst (λ (x : Sending). part_of x.bytes ≡ request u.label kind) same k.part;
-    }
+goes_awaited w u kind s r e = awaited (stands w r).facts u kind s e
 
 pub goes_on : GoesOn
 goes_on = record {

@@ -12,3 +12,4 @@ pub mod Course
 pub mod Steps
 pub mod Reached
 pub mod Fitting
+pub mod Carried

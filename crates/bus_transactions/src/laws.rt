@@ -1,4 +1,5 @@
 ghost use Rattle.bus_transactions.specs.Bare.{TakesSteps};
+ghost use Rattle.bus_transactions.specs.Carried.{LatestLaw, NoRestLaw, QuietLaw, UnderWayLaw};
 ghost use Rattle.bus_transactions.specs.Course.{CanHappen, ClosesUnjudged};
 ghost use Rattle.bus_transactions.specs.May.{Always};
 ghost use Rattle.bus_transactions.specs.Packets.{PacketLaw};
@@ -55,6 +56,31 @@ pub fn packets_are_own()
 /// a write, has an equal last request.
 pub fn labels_are_found()
     ensures { Always LabelsLaw }
+{}
+
+/// The law of requests under way: where nothing was lost since the latest reset, each request under way
+/// of the latest generation has its packet in flight, is answered next, or has a response in flight that
+/// closes it.
+pub fn requests_are_carried()
+    ensures { Always UnderWayLaw }
+{}
+
+/// The law of a quiet bus: where nothing was lost since the latest reset, nothing is to be answered and
+/// nothing is in flight, no request of the latest generation is under way.
+pub fn nothing_waits()
+    ensures { Always QuietLaw }
+{}
+
+/// The law of labels at rest: where nothing was lost since the latest reset, no label of the latest
+/// generation rests.
+pub fn no_label_rests()
+    ensures { Always NoRestLaw }
+{}
+
+/// The law of losses: that no packet of the latest generation was ignored for its generation since the
+/// latest reset may be read off the latest terms.
+pub fn losses_by_latest_terms()
+    ensures { Always LatestLaw }
 {}
 
 /// The law that what a node's transactions are for changes no step of its layer: each call of a layer is

@@ -7,6 +7,7 @@ mod laws;
 
 pub use laws::{
     answered_next, closed_writes_are_served, first_row_decides, goes_by_moves,
-    injected_response_closes, labels_are_found, moves_can_be_made, packets_are_own,
-    packets_by_history, purposes_change_nothing, rows_by_history, writes_taken_once,
+    injected_response_closes, labels_are_found, losses_by_latest_terms, moves_can_be_made,
+    no_label_rests, nothing_waits, packets_are_own, packets_by_history, purposes_change_nothing,
+    requests_are_carried, rows_by_history, writes_taken_once,
 };

@@ -1,3 +1,4 @@
 pub mod Limits
 pub mod Fits
 pub mod Losing
+pub mod Counting

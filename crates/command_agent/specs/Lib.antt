@@ -3,4 +3,5 @@ pub mod Checks
 pub mod Steps
 pub mod Runs
 pub mod Lost
+pub mod Counting
 pub mod Tasks

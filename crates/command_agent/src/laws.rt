@@ -1,3 +1,4 @@
+ghost use Rattle.command_agent.specs.Counting.{FailuresMakeNoMore, LostAheadsMakeNoMore};
 ghost use Rattle.command_agent.specs.Lost.{LostLaw, LossesRunNothing, TwoLossesEndIt, RereadsEndNothing};
 
 /// A reply that fails runs no command and asks nothing of a unit or a medium: it is what
@@ -13,4 +14,11 @@ pub fn failed_reply_is_a_loss()
 #[tactic(auto, using(crate::proofs::Losing::rereads_end_nothing))]
 pub fn failing_reread_ends_nothing()
     ensures { RereadsEndNothing }
+{}
+
+/// A transaction that fails leaves no more requests to be made than before it: the write of the status
+/// block is within what was left of the present ORB, and a read ahead gives back a doorbell mark at most.
+pub fn failures_make_no_more_requests()
+    ensures main { FailuresMakeNoMore }
+    ensures ahead { LostAheadsMakeNoMore }
 {}

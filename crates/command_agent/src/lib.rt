@@ -11,6 +11,8 @@ mod room;
 mod step;
 
 pub use agent::{Agent, aligned};
-pub use laws::{failed_reply_is_a_loss, failing_reread_ends_nothing};
+pub use laws::{
+    failed_reply_is_a_loss, failing_reread_ends_nothing, failures_make_no_more_requests,
+};
 pub use phase::{Phase, ReadAhead};
 pub use step::{AgentState, AgentStep, PointRefusal, Which};

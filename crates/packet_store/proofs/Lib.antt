@@ -9,3 +9,4 @@ pub mod Sound
 pub mod Flights
 pub mod Airborne
 pub mod Calls
+pub mod Weights

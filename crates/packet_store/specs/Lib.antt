@@ -10,3 +10,4 @@ pub mod Sound
 pub mod Stored
 pub mod Calls
 pub mod Laws
+pub mod Weights

@@ -1,4 +1,5 @@
 ghost use Rattle.packet_store.specs.Laws.{SerialLaw, RisingLaw, WholeLaw, KeepsLaw, GoneLaw, ClosedLaw};
+ghost use Rattle.packet_store.specs.Weights.{WeightLaw};
 
 /// The law that the serials count from 1 without a gap, over every list of calls.
 pub fn serials_in_turn()
@@ -33,4 +34,12 @@ pub fn never_again()
 /// flight or kept from then on, over every list of calls.
 pub fn closed_by_request()
     ensures { ClosedLaw }
+{}
+
+/// The law of the weight of the packets in flight, for any weight of a packet and any state of a store: a packet
+/// that is sent adds its own weight at most, one that is delivered or lost takes its weight away at least, and
+/// no delivery and no loss adds any.
+#[tactic(auto, using(crate::proofs::Weights::weight_law))]
+pub fn flights_weigh()
+    ensures { WeightLaw }
 {}

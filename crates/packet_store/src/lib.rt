@@ -15,7 +15,8 @@ mod tables;
 mod transaction;
 
 pub use laws::{
-    closed_by_request, keeps_flights, kept_in_turn, kept_whole, never_again, serials_in_turn,
+    closed_by_request, flights_weigh, keeps_flights, kept_in_turn, kept_whole, never_again,
+    serials_in_turn,
 };
 pub use role::Role;
 pub use sent::{Kept, Sent};

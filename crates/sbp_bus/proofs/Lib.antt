@@ -1,3 +1,4 @@
 pub mod Making
 pub mod Weights
 pub mod Handed
+pub mod Leaving

@@ -7,3 +7,4 @@ pub mod Buses
 pub mod Telling
 pub mod Sending
 pub mod Packets
+pub mod Weights

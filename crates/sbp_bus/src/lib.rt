@@ -4,6 +4,7 @@
 
 mod bus;
 mod generations;
+mod laws;
 mod loads;
 mod places;
 mod requests;
@@ -11,6 +12,7 @@ mod words;
 
 pub use bus::Bus;
 pub use generations::Topology;
+pub use laws::leaving_packets_weigh;
 pub use loads::{LeftLists, ListLoad, OrbLoad, OrbLoads, weight_of};
 pub use places::Holder;
 pub use requests::Request;

@@ -8,3 +8,7 @@ pub mod Refused
 pub mod FirstRow
 pub mod Histories
 mod Zeros
+pub mod Quiet
+pub mod Answering
+pub mod Handing
+pub mod Quadlets

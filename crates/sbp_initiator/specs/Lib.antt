@@ -11,3 +11,4 @@ pub mod Initiators
 pub mod Refusing
 pub mod Steps
 pub mod Histories
+pub mod Handing

@@ -1,3 +1,4 @@
+ghost use Rattle.sbp_initiator.specs.Handing.{DeliveryLaw, QuadletLaw};
 ghost use Rattle.sbp_initiator.specs.Histories.Judging.{JudgingLaw};
 ghost use Rattle.sbp_initiator.specs.Histories.Laws.{CountLaw, SessionLaw, WireLaw};
 ghost use Rattle.sbp_initiator.specs.Histories.Marks.{MarkLaw};
@@ -105,4 +106,16 @@ pub fn pointers_are_written()
 #[tactic(auto, using(crate::proofs::Histories::Pointing::pointing_law))]
 pub fn pointing_is_a_write_under_way()
     ensures { PointingLaw }
+{}
+
+/// The law that a delivery at an initiator hands out one response to a request, and none else, and that it sends a
+/// request only for a quadlet of the target's ROM that was got, of 256 at most.
+pub fn deliveries_ask_for_quadlets()
+    ensures { DeliveryLaw }
+{}
+
+/// The law that a time-out and a sight of a reset hand out nothing to send, and that over every list of calls at
+/// most 256 quadlets are got.
+pub fn quadlets_are_few()
+    ensures { QuadletLaw }
 {}

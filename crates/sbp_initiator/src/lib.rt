@@ -18,10 +18,10 @@ mod state;
 pub use fault::ActFault;
 pub use initiator::Initiator;
 pub use laws::{
-    calls_tell, deliveries_are_judged, first_row_refuses, lists_are_known, no_number_comes_back,
-    packets_are_the_layers, pointers_are_written, pointing_is_a_write_under_way,
-    session_goes_by_its_table, slots_and_rom_are_read, slots_take_their_calls, values_rise,
-    waiting_orbs_are_taken,
+    calls_tell, deliveries_are_judged, deliveries_ask_for_quadlets, first_row_refuses,
+    lists_are_known, no_number_comes_back, packets_are_the_layers, pointers_are_written,
+    pointing_is_a_write_under_way, quadlets_are_few, session_goes_by_its_table,
+    slots_and_rom_are_read, slots_take_their_calls, values_rise, waiting_orbs_are_taken,
 };
 pub use purpose::{Demand, Ending, ListMarks, Pointing, Purpose, Running, Wanted};
 pub use state::{Counts, InitiatorState};

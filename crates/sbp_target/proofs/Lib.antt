@@ -9,3 +9,4 @@ pub mod Faults
 pub mod Acting
 pub mod Reached
 pub mod Histories
+pub mod Requests

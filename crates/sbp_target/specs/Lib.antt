@@ -11,6 +11,7 @@ pub mod Serving
 pub mod Receiving
 pub mod Targets
 pub mod Counting
+pub mod Requests
 pub mod Faults
 pub mod Calls
 pub mod Histories

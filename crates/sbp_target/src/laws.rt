@@ -4,6 +4,7 @@ ghost use Rattle.sbp_target.specs.Histories.Judgements.{RowLaw};
 ghost use Rattle.sbp_target.specs.Histories.Layers.{LayerLaw};
 ghost use Rattle.sbp_target.specs.Histories.Sides.{SideLaw};
 ghost use Rattle.sbp_target.specs.Histories.Transactions.{UnderWayLaw};
+ghost use Rattle.sbp_target.specs.Requests.{FollowsAreCounted};
 
 /// Each call of a target changes its transaction layer by a list of the layer's own steps: one judging,
 /// expiry or sight of a generation first, then at most one answer, then requests; and the packets that it
@@ -65,4 +66,12 @@ pub fn transactions_are_waited_for()
 #[tactic(auto, using(crate::proofs::Histories::Rowing::row_law))]
 pub fn first_row_has_its_rcode()
     ensures { RowLaw }
+{}
+
+/// What follows a step of an agent sends no more requests than the step asks for, those yet to be made
+/// for the agent and its doorbell mark counted: a main request that finds no label makes way for the write
+/// of the status block, and a read ahead that does not leave for the mark that it cleared.
+#[tactic(auto, using(crate::proofs::Requests::follows_are_counted))]
+pub fn steps_ask_for_what_follows()
+    ensures { FollowsAreCounted }
 {}

@@ -14,7 +14,8 @@ mod telling;
 pub use desk::Desk;
 pub use laws::{
     calls_are_steps_of_the_layer, changes_are_told_in_order, first_row_has_its_rcode,
-    labels_are_the_lowest, requests_are_answered_first, transactions_are_waited_for,
+    labels_are_the_lowest, requests_are_answered_first, steps_ask_for_what_follows,
+    transactions_are_waited_for,
 };
 pub use node::Node;
 pub use purpose::{Purpose, Sent};

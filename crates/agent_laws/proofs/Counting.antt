@@ -1,0 +1,5 @@
+pub mod Chunks
+pub mod Runs
+pub mod Checks
+pub mod Replies
+pub mod Registers
