@@ -53,16 +53,16 @@ lost_fits m which cause = lost_by m which cause
 
 -- ---- a reply: a check that an ORB ends with is that of its run
 
-abbrev EndsAs : StatusKind → Option Outcome → Type 0
+abbrev pub EndsAs : StatusKind → Option Outcome → Type 0
 EndsAs (kinds.Check sense) ran = ran ≡ Some (outcomes.Check sense)
 EndsAs (kinds.Management meaning) ran = ⊥
 EndsAs _ ran = Unit {0}
 
-abbrev Ends : Option StatusKind → Option Outcome → Type 0
+abbrev pub Ends : Option StatusKind → Option Outcome → Type 0
 Ends None ran = Unit {0}
 Ends (Some kind) ran = EndsAs kind ran
 
-abbrev Suits : AgentStep → Type 0
+abbrev pub Suits : AgentStep → Type 0
 Suits step = Ends step.ended step.ran
 
 abbrev SentWell : Move → Type 0
@@ -192,7 +192,7 @@ checked_well : (m : Machine) (place : ℕ) (plain : PlainDisk) (told : Told) (ki
 checked_well m place plain told (Some kind) h = h
 checked_well m place plain told None h = passed_well m place plain told
 
-check_well : (m : Machine) (place : ℕ) (plain : PlainDisk) (told : Told) → Suits (check_step m place plain told).0
+pub check_well : (m : Machine) (place : ℕ) (plain : PlainDisk) (told : Told) → Suits (check_step m place plain told).0
 check_well m place plain told = checked_well m place plain told (verdict m.orb m.aborted) (verdict_well m.orb m.aborted).ends
 
 ahead_well : (dead : Option FailCause) (next : OrbPointer) (s : AgentStep × Machine) → Suits s.0 → Suits (ahead_of dead next s).0
@@ -218,12 +218,12 @@ replied_well m place plain told Main answer =
 replied_well m place plain told Ahead answer =
     suits_if (is_ahead m.ahead) (ahead_step m answer) (quiet, m) (ahead_read_well m (payload_of answer 32)) tt
 
-reply_well : (m : Machine) (place : ℕ) (plain : PlainDisk) (told : Option Told) (which : Which) (answer : Answer) → Suits (reply_step m place plain told which answer).0
+pub reply_well : (m : Machine) (place : ℕ) (plain : PlainDisk) (told : Option Told) (which : Which) (answer : Answer) → Suits (reply_step m place plain told which answer).0
 unfolding reply_step
 reply_well m place plain told which answer = replied_well m place plain (told_or told) which answer
 
 -- what may be told of a run
-run_fits : (ran : Option Outcome) (m : Machine) (place : ℕ) (plain : PlainDisk) → MayTell ran m place plain → FitsRun ran
+pub run_fits : (ran : Option Outcome) (m : Machine) (place : ℕ) (plain : PlainDisk) → MayTell ran m place plain → FitsRun ran
 run_fits None m place plain h = tt
 run_fits (Some (outcomes.Good len)) m place plain h = tt
 run_fits (Some (outcomes.Check sense)) m place plain h = run_key m.orb.cdb (plan_of m) plain place sense h.ended
@@ -237,11 +237,11 @@ end_as kinds.Aborted ran e f = tt
 end_as (kinds.Illegal meaning) ran e f = tt
 end_as kinds.Failed ran e f = tt
 
-end_fits : (kind : Option StatusKind) (ran : Option Outcome) → Ends kind ran → FitsRun ran → FitsEnd kind
+pub end_fits : (kind : Option StatusKind) (ran : Option Outcome) → Ends kind ran → FitsRun ran → FitsEnd kind
 end_fits None ran e f = tt
 end_fits (Some kind) ran e f = end_as kind ran e f
 
-step_fits : (step : AgentStep) (m : Machine) (place : ℕ) (plain : PlainDisk) → Suits step → MayTell step.ran m place plain → IsFit step
+pub step_fits : (step : AgentStep) (m : Machine) (place : ℕ) (plain : PlainDisk) → Suits step → MayTell step.ran m place plain → IsFit step
 step_fits step m place plain h may =
     let ran = run_fits step.ran m place plain may in (ran, end_fits step.ended step.ran h ran)
 

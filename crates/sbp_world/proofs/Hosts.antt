@@ -22,6 +22,7 @@ pub mod Others
 pub mod Mild
 pub mod TargetGives
 pub mod TargetTells
+pub mod Outboxes
 pub mod Hands
 pub mod Hosting
 pub mod Liners

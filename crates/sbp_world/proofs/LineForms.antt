@@ -45,21 +45,21 @@ initiators_tell i sent states =
     listed_tells i (receive_step sent.generation sent.bytes empty_outbox s) states (own_formed _ (initiators.receives sent.generation sent.bytes empty_outbox s tt))
 
 -- what a node hands out has the form, and so have the notes before it
-record Arrives (r : Option Arrival × (OutboxState × Scene)) (s : Scene) : Type 0 where
-  sides : AreFormed r.1.0.sides
-  before : r.1.1.world.fresh ≡ s.world.fresh
+pub record Arrives (r : Option Arrival × (OutboxState × Scene)) (s : Scene) : Type 0 where
+  pub sides : AreFormed r.1.0.sides
+  pub before : r.1.1.world.fresh ≡ s.world.fresh
 
-at_target_arrives : (to : ℕ) (r : Judged × (OutboxState × (NodeState × Held))) (s : Scene) → AreFormed r.1.0.sides → Arrives (at_target to r s) s
+pub at_target_arrives : (to : ℕ) (r : Judged × (OutboxState × (NodeState × Held))) (s : Scene) → AreFormed r.1.0.sides → Arrives (at_target to r s) s
 at_target_arrives to (judged, (outbox, (state, media))) s h = record { sides = h; before = refl }
 
-at_initiator_arrives : (to : ℕ) (r : Judged × (OutboxState × List InitiatorState)) (s : Scene) → AreFormed r.1.0.sides → Arrives (at_initiator to r s) s
+pub at_initiator_arrives : (to : ℕ) (r : Judged × (OutboxState × List InitiatorState)) (s : Scene) → AreFormed r.1.0.sides → Arrives (at_initiator to r s) s
 at_initiator_arrives to (judged, (outbox, states)) s h = record { sides = h; before = refl }
 
 pick_arrives : (b : Bool) (x y : Option Arrival × (OutboxState × Scene)) (s : Scene) → Arrives x s → Arrives y s → Arrives (cond b x y) s
 pick_arrives true x y s h i = h
 pick_arrives false x y s h i = i
 
-initiator_arrives : (sent : Sent) (s : Scene) → Arrives (initiator_received sent s) s
+pub initiator_arrives : (sent : Sent) (s : Scene) → Arrives (initiator_received sent s) s
 initiator_arrives sent s =
     pick_arrives (nat_lt (sent.to - 1) (length s.world.initiators)) (at_initiator sent.to (initiators_received (sent.to - 1) sent s.world.initiators) s) (at_none s) s
     (at_initiator_arrives sent.to (initiators_received (sent.to - 1) sent s.world.initiators) s (initiators_tell (sent.to - 1) sent s.world.initiators))
@@ -92,11 +92,11 @@ arrived_form serial again a outbox w f h =
     hands_out a.node 0 outbox (with_note (judged_note serial a.judged) (marked serial again w)) f
     (judged_form serial a.judged, marks _ w _ refl h)
 
-arrived_forms : (serial : ℕ) (again : Bool) (a : Option Arrival) (outbox : OutboxState) (w : WorldState) → AreFormed outbox.sides → HaveForm w → HaveForm (arrived_by serial again a outbox w)
+pub arrived_forms : (serial : ℕ) (again : Bool) (a : Option Arrival) (outbox : OutboxState) (w : WorldState) → AreFormed outbox.sides → HaveForm w → HaveForm (arrived_by serial again a outbox w)
 arrived_forms serial again None outbox w f h = h
 arrived_forms serial again (Some a) outbox w f h = arrived_form serial again a outbox w f h
 
-delivers_by : (serial : ℕ) (again : Bool) (r : Option Arrival × (OutboxState × Scene)) (s : Scene) → Arrives r s → Has s → Has (delivered_by serial again r)
+pub delivers_by : (serial : ℕ) (again : Bool) (r : Option Arrival × (OutboxState × Scene)) (s : Scene) → Arrives r s → Has s → Has (delivered_by serial again r)
 delivers_by serial again (a, (outbox, t)) s r h =
     arrived_forms serial again a outbox t.world r.sides (subst (λ l. AllByRecursion HasForm l) (sym r.before) h)
 
@@ -124,7 +124,7 @@ delivers_all : (told : List (Option Told)) (s : Scene) → MayAll told s → Has
 delivers_all [] s m h = h
 delivers_all (told ∷ before) s m h = delivers_next told (after_all before s) m.0 (delivers_all before s m.1 h)
 
-end_form : (done : Bool) → HasForm (end_note done)
+pub end_form : (done : Bool) → HasForm (end_note done)
 end_form true = tt
 end_form false = tt
 
@@ -137,7 +137,7 @@ acts_by : (r : Option ℕ × (OutboxState × InitiatorState)) (line i : ℕ) (ac
 acts_by (Some number, (outbox, state)) line i action w f h = (tt, h)
 acts_by (None, (outbox, state)) line i action w f h = hands_out (i + 1) (weight_in action) outbox (with_initiator i state w) f h
 
-acts : (line i : ℕ) (action : Action) (w : WorldState) → HaveForm w → HaveForm (acted line i action w)
+pub acts : (line i : ℕ) (action : Action) (w : WorldState) → HaveForm w → HaveForm (acted line i action w)
 unfolding acted
 acts line i action w h =
     acts_by (act_step action empty_outbox (initiator_at w i)) line i action w (own_formed _ (initiators.acts action empty_outbox (initiator_at w i) tt)) h
@@ -151,8 +151,8 @@ unfolding reset_line
 resets ids w h = (tt, h)
 
 record Learns (r : OutboxState × WorldState) (w : WorldState) : Type 0 where
-  sides : AreFormed r.0.sides
-  before : r.1.fresh ≡ w.fresh
+  pub sides : AreFormed r.0.sides
+  pub before : r.1.fresh ≡ w.fresh
 
 hands_all : (node : ℕ) (r : OutboxState × WorldState) (w : WorldState) → Learns r w → HaveForm w → HaveForm (handed_all node r)
 hands_all node (outbox, x) w l h = hands_out node 0 outbox x l.sides (subst (λ t. AllByRecursion HasForm t) (sym l.before) h)
@@ -195,15 +195,15 @@ ticks_form w h =
     let x = with_note notes.Tick w in
     hands_all 0 (nodes.at_target (target_ticks w.target) x) x (target_pair (target_ticks w.target) x (second_tells w.target)) (tt, h)
 
-loses : (line serial : ℕ) (w : WorldState) → HaveForm w → HaveForm (lose_line line serial w)
+pub loses : (line serial : ℕ) (w : WorldState) → HaveForm w → HaveForm (lose_line line serial w)
 unfolding lose_line
 loses line serial w h = pick (is_in_flight serial w) (lost serial w) (refused line no_packet w) (tt, h) (tt, h)
 
 -- ---- a time-out
 
-record Ends (r : Bool × (OutboxState × WorldState)) (w : WorldState) : Type 0 where
-  sides : AreFormed r.1.0.sides
-  before : r.1.1.fresh ≡ w.fresh
+pub record Ends (r : Bool × (OutboxState × WorldState)) (w : WorldState) : Type 0 where
+  pub sides : AreFormed r.1.0.sides
+  pub before : r.1.1.fresh ≡ w.fresh
 
 pick_ends : (b : Bool) (x y : Bool × (OutboxState × WorldState)) (w : WorldState) → Ends x w → Ends y w → Ends (cond b x y) w
 pick_ends true x y w h i = h
@@ -218,13 +218,13 @@ unfolding target_expired
 target_expiry request node =
     target_left_tells (expired request.peer request.label (target.scene node empty_outbox)) node (target_forms.expires request.peer request.label (target.scene node empty_outbox) tt)
 
-target_ends : (r : Bool × (OutboxState × NodeState)) (w : WorldState) → AreFormed r.1.0.sides → Ends (packets.at_target r w) w
+pub target_ends : (r : Bool × (OutboxState × NodeState)) (w : WorldState) → AreFormed r.1.0.sides → Ends (packets.at_target r w) w
 target_ends (done, (outbox, node)) w h = record { sides = h; before = refl }
 
 initiator_ends : (i : ℕ) (r : Bool × (OutboxState × InitiatorState)) (w : WorldState) → AreFormed r.1.0.sides → Ends (packets.at_initiator i r w) w
 initiator_ends i (done, (outbox, state)) w h = record { sides = h; before = refl }
 
-ends_at_initiator : (request : Request) (w : WorldState) → Ends (initiator_expires request w) w
+pub ends_at_initiator : (request : Request) (w : WorldState) → Ends (initiator_expires request w) w
 ends_at_initiator request w =
     let r = expire_step request.label empty_outbox (initiator_at w (request.node - 1)) in
     pick_ends (nat_lt (request.node - 1) (length w.initiators)) (packets.at_initiator (request.node - 1) r w) (false, (empty_outbox, w)) w
@@ -237,7 +237,7 @@ ends request w =
     pick_ends (request.node == 0) (packets.at_target (target_expired request w.target) w) (initiator_expires request w) w
     (target_ends (target_expired request w.target) w (target_expiry request w.target)) (ends_at_initiator request w)
 
-timed_form : (line serial node : ℕ) (r : Bool × (OutboxState × WorldState)) (w : WorldState) → Ends r w → HaveForm w → HaveForm (timed_out line serial node r)
+pub timed_form : (line serial node : ℕ) (r : Bool × (OutboxState × WorldState)) (w : WorldState) → Ends r w → HaveForm w → HaveForm (timed_out line serial node r)
 timed_form line serial node (true, (outbox, x)) w e h =
     hands_out node 0 outbox (with_note (notes.TimedOut serial) x) e.sides (tt, subst (λ t. AllByRecursion HasForm t) (sym e.before) h)
 timed_form line serial node (false, (outbox, x)) w e h = (tt, subst (λ t. AllByRecursion HasForm t) (sym e.before) h)
@@ -281,7 +281,7 @@ line_form : (line : ℕ) (event : Event) (told : List (Option Told)) (s : Scene)
 unfolding happens MayHappen
 line_form line event told s m = happens_form line event told (begun s) m tt
 
-begins_form : (initiators : ℕ) (ready : Bool) (units : ℕ) → HaveForm (new_world initiators ready units)
+pub begins_form : (initiators : ℕ) (ready : Bool) (units : ℕ) → HaveForm (new_world initiators ready units)
 unfolding new_world
 begins_form initiators ready units = (tt, tt)
 

@@ -59,7 +59,7 @@ use Rattle.sbp_world.proofs.Formed.{AreOwn, IsNoRun}
 use Rattle.sbp_world.proofs.Hosts.Asked.{number_in}
 use Rattle.sbp_world.proofs.Hosts.Carried.{fresh, own_request}
 use Rattle.sbp_world.proofs.Hosts.Carries.{IsNoAct}
-use Rattle.sbp_world.proofs.Hosts.Hands.{line_stays}
+use Rattle.sbp_world.proofs.Hosts.Outboxes.{line_stays}
 use Rattle.sbp_world.proofs.Hosts.Hosted.{expires_fit, hears_fit}
 use Rattle.sbp_world.proofs.Hosts.Knows.{target_there}
 use Rattle.sbp_world.proofs.Hosts.Requested.{AreRequests, act_sends, all_told_bus}

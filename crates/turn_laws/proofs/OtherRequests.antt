@@ -41,7 +41,8 @@ use Rattle.sbp_world.specs.Nodes.{told_seen, with_seen}
 use Rattle.sbp_world.specs.Worlds.{Scene, WorldState, initiator_at, with_initiator, with_note, with_target}
 use Rattle.sbp_world.proofs.Agents.Management.Holding.{was_sent}
 use Rattle.sbp_world.proofs.Agents.Management.Still.{hist}
-use Rattle.sbp_world.proofs.Wire.Forgets.{seen_stays, sees_rests, ticked_stays}
+use Rattle.sbp_world.proofs.Wire.Forgets.{sees_rests}
+use Rattle.sbp_world.proofs.Wire.TargetForgets.{seen_stays, ticked_stays}
 use Rattle.sbp_world.specs.Telling.{told_all}
 use Rattle.turn_laws.specs.OtherRequests.{AsksNobody, OtherAsks, OtherRequestsLaw}
 use Rattle.turn_laws.proofs.Calls.{Brings, Cases, calls, injects, loses, refuses, refuses_action, resets, sets_key}

@@ -60,7 +60,7 @@ use Rattle.sbp_world.proofs.Agents.Management.Still.{hist}
 use Rattle.sbp_world.proofs.Common.{equal, same_number, untrue}
 use Rattle.sbp_world.proofs.Hosts.Aimed.{IsAimed}
 use Rattle.sbp_world.proofs.Hosts.Carries.{IsNoAct}
-use Rattle.sbp_world.proofs.Hosts.Hands.{line_stays}
+use Rattle.sbp_world.proofs.Hosts.Outboxes.{line_stays}
 use Rattle.sbp_world.proofs.Hosts.Lives.{At, Called}
 use Rattle.sbp_world.proofs.Hosts.Shown.{IsShown}
 use Rattle.sbp_world.proofs.Hosts.Shows.{shown_now}

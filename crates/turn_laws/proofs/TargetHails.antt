@@ -48,7 +48,7 @@ use Rattle.turn_laws.proofs.Calls.{Brings, CarriedCases, Stays, calls, injects, 
 use Rattle.turn_laws.proofs.Handed.{AllInner, handed, handed_inner, note_of, notes_sent, notes_told, onto, others_inner}
 use Rattle.turn_laws.proofs.LaterNotes.{ArePlain, IsPlain, owns_handed}
 use Rattle.turn_laws.proofs.LaterTerms.{Pushes}
-use Rattle.sbp_world.proofs.Wire.Forgets.{seen_stays, ticked_stays}
+use Rattle.sbp_world.proofs.Wire.TargetForgets.{seen_stays, ticked_stays}
 use Rattle.turn_laws.proofs.OtherRequests.{no_sends}
 use Rattle.turn_laws.proofs.Pass.{of_every_carried}
 use Rattle.turn_laws.proofs.PendingHeard.{Hails, heard_kept, late_kept}

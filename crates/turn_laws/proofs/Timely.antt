@@ -23,7 +23,7 @@ use Rattle.sbp_world.proofs.Agents.Management.Holding.{past_terms}
 use Rattle.sbp_world.proofs.Agents.Management.Still.{hist}
 use Rattle.sbp_world.proofs.Wire.Comes.{to_zero}
 use Rattle.sbp_world.proofs.Wire.Holding.{to_target}
-use Rattle.sbp_world.proofs.Wire.Received.{IsTarget}
+use Rattle.sbp_world.proofs.Wire.Arrivals.{IsTarget}
 use Rattle.sbp_world.proofs.Wire.UnderWay.{at_own_is, at_target_is, expired_was}
 use Rattle.sbp_world.specs.Packets.{at_initiator, at_target, expires, initiator_expires, target_expired, target_left}
 use Rattle.sbp_world.specs.Worlds.{Scene, WorldState, initiator_at}

@@ -12,7 +12,7 @@ use Rattle.sbp_world.specs.Settling as settling
 use Rattle.sbp_world.proofs.Wire.Comes.{own_inside, own_outside, received_is, to_own, to_zero, to_suc as not_zero}
 use Rattle.sbp_world.proofs.Wire.Holding.{Sound}
 use Rattle.sbp_world.proofs.Wire.Nodes.{handed_alike, marked_alike}
-use Rattle.sbp_world.proofs.Wire.ToldBytes.{AreTold}
+use Rattle.sbp_world.proofs.Wire.CommandBytes.{AreTold}
 use Rattle.sbp_world.proofs.Agents.Management.Holding.{Holding, marked_hist, was_sent}
 use Rattle.sbp_world.proofs.Agents.Management.Idle.{over_idle}
 use Rattle.sbp_world.proofs.InitiatorForms as own

@@ -6,7 +6,7 @@ use Rattle.sbp_world.proofs.Words.Laws.{Agent, Target, over, reset_seen, target_
 use Rattle.sbp_world.proofs.Words.World.{handed_out, told_seen, with_seen, WorldState, with_note, with_target, Stands, Office, office_of, ticked, AreOf, Request, with_requests, AllLeave}
 use Rattle.sbp_journal.specs.declared.note.Note.TheVariants as notes
 use Rattle.sbp_world.proofs.Wire.Bus.{aged, holds}
-use Rattle.sbp_world.proofs.Wire.Forgets.{seen_stays, ticked_stays}
+use Rattle.sbp_world.proofs.Wire.TargetForgets.{seen_stays, ticked_stays}
 use Rattle.sbp_target.proofs.Histories.Calling.{Good}
 use Rattle.sbp_world.specs.Agents.Management.Calls as management
 use Rattle.sbp_world.proofs.Agents.Management.Calls.{forgets_if}

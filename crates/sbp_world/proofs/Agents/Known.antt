@@ -13,7 +13,7 @@ use Rattle.sbp_world.proofs.FitTarget.Law.{fitting_law}
 use Rattle.sbp_world.proofs.Wire.Alike.{told_alike}
 use Rattle.sbp_world.proofs.Wire.Bus.{holds}
 use Rattle.sbp_world.proofs.Wire.Entered.{number_small}
-use Rattle.sbp_world.proofs.Wire.Forgets.{seen_stays, ticked_stays}
+use Rattle.sbp_world.proofs.Wire.TargetForgets.{seen_stays, ticked_stays}
 use Rattle.sbp_world.proofs.Wire.Holding.{KnownTo, known_small, target_has}
 use Rattle.sbp_world.proofs.Wire.Nodes.{handed_alike, marked_alike}
 use Rattle.sbp_world.proofs.Agents.Management.Holding.{Holding, ours}

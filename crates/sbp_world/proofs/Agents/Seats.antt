@@ -13,7 +13,7 @@ use Rattle.sbp_world.specs.Packets as packets
 use Rattle.sbp_world.proofs.FitTarget.Law.{fitting_law}
 use Rattle.sbp_world.proofs.Wire.Alike.{told_alike}
 use Rattle.sbp_world.proofs.Wire.Bus.{aged, holds}
-use Rattle.sbp_world.proofs.Wire.Forgets.{seen_stays, ticked_stays}
+use Rattle.sbp_world.proofs.Wire.TargetForgets.{seen_stays, ticked_stays}
 use Rattle.sbp_world.proofs.Wire.Found.{has_known, known_has, node_found}
 use Rattle.sbp_world.proofs.Wire.Holding.{known_small, latest_small}
 use Rattle.sbp_world.proofs.Wire.Nodes.{handed_alike, marked_alike}

@@ -13,7 +13,7 @@ use Rattle.sbp_world.specs.Nodes as world_nodes
 use Rattle.sbp_world.specs.Packets as packets
 use Rattle.sbp_world.proofs.Wire.Comes.{own_inside, own_outside, received_is, to_own, to_zero}
 use Rattle.sbp_world.proofs.Wire.Nodes.{handed_alike, marked_alike}
-use Rattle.sbp_world.proofs.Wire.ToldBytes.{AreTold}
+use Rattle.sbp_world.proofs.Wire.CommandBytes.{AreTold}
 use Rattle.sbp_target.proofs.Histories.Calling.{Good}
 use Rattle.sbp_world.proofs.Agents.Management.Holding.{Holding, good_of, marked_hist}
 use Rattle.sbp_world.proofs.InitiatorForms as own

@@ -151,7 +151,7 @@ unread_fits orb f inside = single_if (plain_length orb == 0) orb.descriptor (pla
     by false e = inside e
 
 -- ---- steps
-ended : (m : Machine) (kind : StatusKind) (dead : Option FailCause) → FitsAgent m → FitsStep (end_step m kind dead)
+pub ended : (m : Machine) (kind : StatusKind) (dead : Option FailCause) → FitsAgent m → FitsStep (end_step m kind dead)
 ended m kind dead a = record {
   ask = omega arith;
   ahead = tt;
@@ -162,7 +162,7 @@ ended m kind dead a = record {
     kept None = a.ahead
     kept (Some cause) = tt
 
-failed : (m : Machine) (cause : FailCause) → FitsAgent m → FitsStep (fail_step m cause)
+pub failed : (m : Machine) (cause : FailCause) → FitsAgent m → FitsStep (fail_step m cause)
 failed m cause a = ended m kinds.Failed (Some cause) a
 
 died : (m : Machine) (cause : FailCause) → FitsAgent m → FitsStep (dead_step m cause)
@@ -347,7 +347,7 @@ passes m place plain told e t a =
     (record { ask = a.orb.descriptor; ahead = tt; agent = record { present = a.present; orb = a.orb; ahead = a.ahead; segments = a.segments; answer = a.answer; outgoing = a.outgoing } })
     (judged_on n told (need_of n.orb.cdb (plan_of n) plain place) t (record { present = a.present; orb = a.orb; ahead = a.ahead; segments = unread_fits m.orb a.orb (refusal_inside m.orb e); answer = a.answer; outgoing = a.outgoing }))
 
-checked_on : (m : Machine) (place : ℕ) (plain : PlainDisk) (told : Told) (found : Option StatusKind) → verdict m.orb m.aborted ≡ found → AreBytes told.answer → FitsAgent m → FitsStep (checked m place plain told found)
+pub checked_on : (m : Machine) (place : ℕ) (plain : PlainDisk) (told : Told) (found : Option StatusKind) → verdict m.orb m.aborted ≡ found → AreBytes told.answer → FitsAgent m → FitsStep (checked m place plain told found)
 checked_on m place plain told (Some kind) e t a = ended m kind (death_by kind) a
 checked_on m place plain told None e t a = passes m place plain told (verdict_refusal m.orb m.aborted e) t a
 

@@ -10,7 +10,7 @@ use Rattle.sbp_world.proofs.FitTarget.Law.{fitting_law}
 use Rattle.sbp_world.proofs.Wire.Holding.{Sound}
 use Rattle.sbp_world.proofs.Wire.Runs.{SoundAfter, sound_after}
 use Rattle.sbp_world.proofs.Wire.Sound.{next_heard, opens}
-use Rattle.sbp_world.proofs.Wire.ToldBytes.{AreTold}
+use Rattle.sbp_world.proofs.Wire.CommandBytes.{AreTold}
 use Rattle.sbp_world.specs.Hosts.Answering.{IsAnswered}
 use Rattle.sbp_world.specs.Hosts.Refusing.{initiator_of}
 use Rattle.sbp_world.proofs.Hosts.AnsweringRuns.{is_answered_here}

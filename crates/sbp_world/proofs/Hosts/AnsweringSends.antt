@@ -20,7 +20,7 @@ use Rattle.sbp_world.proofs.Wire.Found.{node_found}
 use Rattle.sbp_world.proofs.Wire.Holding.{Sound, own_has, target_small}
 use Rattle.sbp_world.proofs.Hosts.AnsweringTold.{asks_part, behind_on, none_on, notes_on, one_sent, plain_on}
 use Rattle.sbp_world.proofs.Hosts.Answering.{IsRequestFound, answer, request_of}
-use Rattle.sbp_world.proofs.Hosts.Hands.{all_own}
+use Rattle.sbp_world.proofs.Hosts.Outboxes.{all_own}
 use Rattle.sbp_world.proofs.Hosts.Knows.{was_sent}
 use Rattle.sbp_world.proofs.Hosts.Liners.{own_notes}
 use Rattle.sbp_world.proofs.Hosts.OrbTells as tell

@@ -19,7 +19,8 @@ use Rattle.sbp_world.proofs.Wire.Repeats.{said_same}
 use Rattle.sbp_world.proofs.Wire.Runs.{sound_after}
 use Rattle.sbp_world.proofs.Wire.Sound.{first_flies, next_heard, opens}
 use Rattle.sbp_world.proofs.Wire.Starts.{states_at}
-use Rattle.sbp_world.proofs.Wire.ToldBytes.{AreTold, happened_fits}
+use Rattle.sbp_world.proofs.Wire.ToldBytes.{happened_fits}
+use Rattle.sbp_world.proofs.Wire.CommandBytes.{AreTold}
 use Rattle.sbp_world.proofs.Hosts.Acting.{acts}
 use Rattle.sbp_world.proofs.Hosts.Asked.{IfRequest, is_request}
 use Rattle.sbp_world.proofs.Hosts.Carries.{Are, Carries, CarriesSent, IsLineOf, IsNoAct, NoneActs, by_more, note_carried}
@@ -28,7 +29,7 @@ use Rattle.sbp_world.proofs.Hosts.Passes.{delivers, line_expires, line_sees, tic
 use Rattle.sbp_world.proofs.Hosts.Runs.{are_told, count_after, count_between}
 use Rattle.sbp_world.proofs.Hosts.Shows.{Arriving, arriving, lapsing, shown_now}
 use Rattle.sbp_world.proofs.Common.{untrue}
-use Rattle.sbp_world.proofs.Hosts.Hands.{line_stays as line_same}
+use Rattle.sbp_world.proofs.Hosts.Outboxes.{line_stays as line_same}
 
 -- the next packet was not injected
 pub fresh : {past : List Moment} (w : WorldState) → Stands past w → (terms (history w past)).injected (w.store.last + 1) ≡ false

@@ -11,7 +11,7 @@ use Rattle.sbp_journal.specs.declared.event.Event.TheVariants as events
 use Rattle.sbp_journal.specs.declared.note.Note.TheVariants as notes
 use Rattle.sbp_journal.specs.declared.side.Side.TheVariants as sides
 use Rattle.sbp_world.proofs.Hosts.Asked.{IsRequest, number_in}
-use Rattle.sbp_world.proofs.Hosts.Hands.{all_own, line_stays as line_same}
+use Rattle.sbp_world.proofs.Hosts.Outboxes.{all_own, line_stays as line_same}
 use Rattle.sbp_world.proofs.Hosts.Hosting.{hands_keep, state_here, state_there}
 use Rattle.sbp_world.proofs.Hosts.Mild.{AreMild, FromTarget, IsMild}
 use Rattle.sbp_world.proofs.Hosts.Shown.{IsElsewhere, IsHeard, IsShown}

@@ -16,7 +16,8 @@ use Rattle.sbp_world.proofs.Wire.Comes.{own_inside, own_outside, to_own}
 use Rattle.sbp_world.proofs.Wire.Gains.{Gains, all_sent, hands_out}
 use Rattle.sbp_world.proofs.Wire.OwnActs.{AreStepSides, IsStepSide, acts}
 use Rattle.sbp_world.proofs.Wire.OwnTells as own
-use Rattle.sbp_world.proofs.Wire.Turned.{Turned, delivers, lapse_turns, second_turns, sight_turns, stale_refuses, marked_by}
+use Rattle.sbp_world.proofs.Wire.Turned.{delivers, lapse_turns, second_turns, sight_turns, stale_refuses}
+use Rattle.sbp_world.proofs.Wire.Turns.{Turned, marked_by}
 use Rattle.sbp_world.specs.Hosts.Deliveries.{WasGot}
 use Rattle.sbp_world.proofs.Hosts.Between.{stands_there}
 use Rattle.sbp_world.proofs.Hosts.GotRequests.{request_got}

@@ -9,7 +9,7 @@ use Rattle.std.proofs.Common.{slice_set}
 use Rattle.std.proofs.lemmas.List.{length-set}
 use Rattle.sbp_journal.specs.declared.side.Side.TheVariants as sides
 use Rattle.sbp_world.proofs.Hosts.Beside.{beside_rests}
-use Rattle.sbp_world.proofs.Hosts.Hands.{all_others, all_own, all_still, line_stays}
+use Rattle.sbp_world.proofs.Hosts.Outboxes.{all_others, all_own, all_still, line_stays}
 
 -- ---- what is handed out changes no initiator, and begins no line
 

@@ -115,14 +115,14 @@ module _ (past : List Moment) (serial : ℕ) (again : Bool) where
       let v = record w { store = deliver_step w.store serial } in
       initiator_hosts past (with_note (judged_note serial judged) v) i node 0 t inside number own n listed (all_but past i (with_note (judged_note serial judged) v) (note_hosts past v (judged_note serial judged) (judged_beside serial judged) h))
 
-  abbrev Arrives : Option Arrival × (OutboxState × Scene) → Type 0
+  abbrev pub Arrives : Option Arrival × (OutboxState × Scene) → Type 0
   Arrives r = AreHosts past (delivered_by serial again r).world
 
   pick_arrives : (b : Bool) (x y : Option Arrival × (OutboxState × Scene)) → (b ≡ true → Arrives x) → (b ≡ false → Arrives y) → Arrives (cond b x y)
   pick_arrives true x y h i = h refl
   pick_arrives false x y h i = i refl
 
-  at_target_arrives : (node : ℕ) (r : Judged × (OutboxState × (NodeState × Held))) (s : Scene) → AreOthers r.1.0.sides → NoneAborts (history s.world past) → AreHosts past s.world → Arrives (at_target node r s)
+  pub at_target_arrives : (node : ℕ) (r : Judged × (OutboxState × (NodeState × Held))) (s : Scene) → AreOthers r.1.0.sides → NoneAborts (history s.world past) → AreHosts past s.world → Arrives (at_target node r s)
   unfolding arrived
   at_target_arrives node (judged, (outbox, (state, media))) s o n h =
       target_arrives (again || not (is_flying serial s.world.store.kept)) s.world state node judged outbox o n h
@@ -132,7 +132,7 @@ module _ (past : List Moment) (serial : ℕ) (again : Bool) where
   at_own_arrives i node (judged, (outbox, state)) s inside number own n l h =
       own_arrives (again || not (is_flying serial s.world.store.kept)) s.world i node judged (outbox, state) inside number own n l h
 
-  own_received : (sent : Sent) (s : Scene) → NoneAborts (history s.world past) → MayHear past serial sent s.world → AreHosts past s.world → Arrives (initiator_received sent s)
+  pub own_received : (sent : Sent) (s : Scene) → NoneAborts (history s.world past) → MayHear past serial sent s.world → AreHosts past s.world → Arrives (initiator_received sent s)
   unfolding initiators_received
   own_received sent s n may h =
       let i = sent.to - 1 in
@@ -164,14 +164,14 @@ module _ (past : List Moment) (serial : ℕ) (again : Bool) where
 -- ---- a time-out
 
 module _ (past : List Moment) (line serial : ℕ) where
-  abbrev Ends : ℕ → Bool × (OutboxState × WorldState) → Type 0
+  abbrev pub Ends : ℕ → Bool × (OutboxState × WorldState) → Type 0
   Ends node r = AreHosts past (timed_out line serial node r)
 
-  pick_ends : (node : ℕ) (b : Bool) (x y : Bool × (OutboxState × WorldState)) → (b ≡ true → Ends node x) → (b ≡ false → Ends node y) → Ends node (cond b x y)
+  pub pick_ends : (node : ℕ) (b : Bool) (x y : Bool × (OutboxState × WorldState)) → (b ≡ true → Ends node x) → (b ≡ false → Ends node y) → Ends node (cond b x y)
   pick_ends node true x y h i = h refl
   pick_ends node false x y h i = i refl
 
-  refuses : (w : WorldState) → AreHosts past w → AreHosts past (refused line no_packet w)
+  pub refuses : (w : WorldState) → AreHosts past w → AreHosts past (refused line no_packet w)
   refuses w h = note_hosts past w (notes.Refused line no_packet) (λ i. refl) h
 
   target_ends : (node : ℕ) (r : Result (Unit {0}) Stale × target.Scene) (w : WorldState) → AreOthers r.1.outbox.sides → NoneAborts (history w past) → AreHosts past w → Ends node (packets.at_target (target_left r w.target) w)
@@ -199,7 +199,7 @@ module _ (past : List Moment) (line serial : ℕ) where
   unfolding expire_step
   silent label s e = stale_silent (expiring_step s.layer s.target label) s e
 
-  own_expires : (request : Request) (w : WorldState) → NoneAborts (history w past) → AreHosts past w → Ends request.node (initiator_expires request w)
+  pub own_expires : (request : Request) (w : WorldState) → NoneAborts (history w past) → AreHosts past w → Ends request.node (initiator_expires request w)
   own_expires request w n h =
       let i = request.node - 1 in
       let old = initiator_at w i in

@@ -1,6 +1,7 @@
 -- A node that asks for no write of a quadlet sends none: neither its requests nor its responses spell one.
 use Rattle.sbp_world.proofs.Words.Std.{arith, ◌≡◌, refl, ◌∙◌, ap, ℕ, ◌+◌, ◌*◌, ◌/◌, ◌%◌, ◌^◌, ◌<◌, ◌==◌, Bool, true, false, cond, List, [], ◌∷◌, ◌++◌, Option, Some, None, AllByRecursion, big_bytes, big_number, big_from-bytes}
-use Rattle.sbp_world.proofs.Words.Wire.{PacketFault, canon, four, three, fault_of, tcode_of, Packet, lock, lock_response, read_block, read_block_response, read_quadlet, read_quadlet_response, write_block, write_quadlet, write_response, packet_in, reading, unless_fault, Asked, Body, block_read, block_write, header_to, quadlet_read, quadlet_write, request_with, response_to, Layer, asked_at, asking_in, asking_step, peer_at, peer_place, unlabelled, begun_for, with_label, begin_at, begin_step, lowest_from, Outgoing, OutboxState}
+use Rattle.sbp_world.proofs.Words.Wire.{PacketFault, canon, four, three, fault_of, tcode_of, Packet, lock, lock_response, read_block, read_block_response, read_quadlet, read_quadlet_response, write_block, write_quadlet, write_response, packet_in, reading, unless_fault, Asked, Body, block_read, block_write, header_to, quadlet_read, quadlet_write, request_with, response_to, Layer, answering_step, asked_at, asking_in, asking_step, peer_at, peer_place, unlabelled, begun_for, with_label, begin_at, begin_step, lowest_from, Outgoing, OutboxState}
+use Rattle.sbp_world.proofs.Words.Target.{response, with_asked}
 use Rattle.sbp_world.proofs.Words.Laws.{spelled_by}
 use Rattle.sbp_world.proofs.Words.World.{writes_quadlet, AreOthers}
 
@@ -109,3 +110,16 @@ module _ {P : Type 0} where
   pub asked_mild : (layer : Layer P) (peer : ℕ) (body : Body) (purpose : P) → IsMildBody body → IsMildAsked (asking_step layer peer body purpose).0
   unfolding asking_step
   asked_mild layer peer body purpose m = in_mild (peer_place peer layer) layer peer (unlabelled layer peer body) purpose (body_mild layer.node peer body m)
+
+-- ---- one packet more
+pub more_mild : (packets : List Outgoing) (packet : Outgoing) → AreMild packets → IsMild packet.bytes → AreMild (packets ++ packet ∷ [])
+more_mild [] packet h m = (m, tt)
+more_mild (other ∷ packets) packet h m = (h.0, more_mild packets packet h.1 m)
+
+pub asked_more : (peer : ℕ) (asked : Option Asked) (packets : List Outgoing) → IsMildAsked asked → AreMild packets → AreMild (with_asked peer asked packets)
+asked_more peer None packets m h = h
+asked_more peer (Some asked) packets m h = more_mild packets _ h m
+
+pub answers_more : {P : Type 0} (layer : Layer P) (packets : List Outgoing) (p : Packet) (bytes : List ℕ) (rcode : ℕ) (given : List ℕ) → AreMild packets → AreMild (packets ++ response p (answering_step layer p bytes rcode given).0 ∷ [])
+unfolding answering_step
+answers_more layer packets p bytes rcode given h = more_mild packets _ h (response_mild layer.node rcode p given)

@@ -16,7 +16,8 @@ use Rattle.sbp_world.proofs.Wire.Runs.{sound_after}
 use Rattle.sbp_world.proofs.Wire.Sizes.{Sizes, happens_keeps, new_sizes}
 use Rattle.sbp_world.proofs.Wire.Sound.{next_heard, opens}
 use Rattle.sbp_world.proofs.Wire.Starts.{states_at}
-use Rattle.sbp_world.proofs.Wire.ToldBytes.{AreTold, happened_fits}
+use Rattle.sbp_world.proofs.Wire.ToldBytes.{happened_fits}
+use Rattle.sbp_world.proofs.Wire.CommandBytes.{AreTold}
 use Rattle.sbp_world.proofs.Hosts.Aborts.{line_aborts}
 use Rattle.sbp_world.proofs.Hosts.Beside.{begins, beside_rests, sent_rests}
 use Rattle.sbp_world.proofs.Hosts.Brings.{may_deliver}
@@ -24,7 +25,7 @@ use Rattle.sbp_world.proofs.Hosts.Hosting.{note_hosts}
 use Rattle.sbp_world.proofs.Hosts.Knows.{may_see, target_there}
 use Rattle.sbp_world.proofs.Hosts.Liners.{acts, delivers, line_expires, line_sees, ticks}
 use Rattle.sbp_world.proofs.Hosts.Readings.{read_law}
-use Rattle.sbp_world.proofs.Hosts.Hands.{line_stays as line_same}
+use Rattle.sbp_world.proofs.Hosts.Outboxes.{line_stays as line_same}
 
 -- ---- a line begins
 

@@ -1,14 +1,14 @@
 -- What the target tells in each call is no note of an initiator, and what it sends is no write of a quadlet.
-use Rattle.sbp_world.proofs.Words.Std.{subst, ℕ, ◌==◌, ◌++◌, ◌∷◌, nat_le, Bool, true, false, cond, List, [], length, Option, Some, None}
-use Rattle.sbp_world.proofs.Words.Wire.{largest, LabelParts, Packet, Asked, Body, block_read, block_write, quadlet_read, Layer, answering_step, asking_step, judging_step, Outgoing, Side}
-use Rattle.sbp_world.proofs.Words.Target.{Told, Purpose, agent_body, response, with_asked, Asks, Moves, by_agent, by_disc, by_manager, free, Tells, announced, back, cleared, departed, died, ended, failed, lapsed, managed, opened, plain, ran, unsent, was_cut, manager_body, Scene, TellsIn, expired, received, seen, ticked, with_layer, Whole, scene_of}
+use Rattle.sbp_world.proofs.Words.Std.{subst, ℕ, ◌==◌, nat_le, Bool, true, false, cond, List, length, Option, Some, None}
+use Rattle.sbp_world.proofs.Words.Wire.{largest, LabelParts, Body, block_read, block_write, quadlet_read, asking_step, judging_step, Side}
+use Rattle.sbp_world.proofs.Words.Target.{Told, Purpose, agent_body, Asks, Moves, by_agent, by_disc, by_manager, free, Tells, announced, back, cleared, departed, died, ended, failed, lapsed, managed, opened, plain, ran, unsent, was_cut, manager_body, Scene, TellsIn, expired, received, seen, ticked, with_layer, Whole, scene_of}
 use Rattle.sbp_world.proofs.Words.Initiator.{Ask}
 use Rattle.sbp_world.proofs.Words.World.{AreOthers, IsOther}
 use Rattle.orb_layout.specs.declared.ask.Ask.TheVariants as asks_for
 use Rattle.sbp_target.specs.Histories.Moves.{held}
 use Rattle.sbp_target.proofs.Histories.Views.{packets_kept, sides_kept}
 use Rattle.sbp_target.proofs.Histories.Views as moves
-use Rattle.sbp_world.proofs.Hosts.Mild.{AreMild, FromTarget, IsMild, IsMildAsked, IsMildBody, asked_mild, response_mild}
+use Rattle.sbp_world.proofs.Hosts.Mild.{AreMild, FromTarget, IsMildBody, answers_more, asked_mild, asked_more}
 use Rattle.sbp_world.proofs.Hosts.Others.{more}
 
 abbrev pub In : Scene → Type 0
@@ -32,10 +32,6 @@ other _ (plain _ (held login a)) = tt
 other _ (plain _ (lapsed login a)) = tt
 
 -- ---- what is sent: no answer and no request writes a quadlet
-more_mild : (packets : List Outgoing) (packet : Outgoing) → AreMild packets → IsMild packet.bytes → AreMild (packets ++ packet ∷ [])
-more_mild [] packet h m = (m, tt)
-more_mild (other ∷ packets) packet h m = (h.0, more_mild packets packet h.1 m)
-
 -- an agent and the management agent ask for reads and for writes of blocks
 abbrev MayAsk : Option Body → Type 0
 MayAsk None = Unit {0}
@@ -59,14 +55,6 @@ asks_mild : (body : Body) (purpose : Purpose) → Asks free body purpose → IsM
 asks_mild _ _ (by_agent place ask is_status fifo outgoing body e) = subst MayAsk e (agent_may ask is_status fifo outgoing)
 asks_mild _ _ (by_manager ask outgoing body m e) = subst MayAsk e (manager_may ask outgoing)
 asks_mild _ _ (by_disc fifo) = tt
-
-asked_more : (peer : ℕ) (asked : Option Asked) (packets : List Outgoing) → IsMildAsked asked → AreMild packets → AreMild (with_asked peer asked packets)
-asked_more peer None packets m h = h
-asked_more peer (Some asked) packets m h = more_mild packets _ h m
-
-answers_more : (layer : Layer Purpose) (packets : List Outgoing) (p : Packet) (bytes : List ℕ) (rcode : ℕ) (given : List ℕ) → AreMild packets → AreMild (packets ++ response p (answering_step layer p bytes rcode given).0 ∷ [])
-unfolding answering_step
-answers_more layer packets p bytes rcode given h = more_mild packets _ h (response_mild layer.node rcode p given)
 
 sends : moves.Sends free (λ layer packets. AreMild packets)
 sends = record {

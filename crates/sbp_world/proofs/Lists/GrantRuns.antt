@@ -8,7 +8,8 @@ use Rattle.bus_transactions.proofs.Reaches.{goes_on}
 use Rattle.sbp_journal.specs.declared.event.Event.TheVariants as events
 use Rattle.sbp_world.specs.Settling as settling
 use Rattle.sbp_world.proofs.Wire.Sound.{first_flies}
-use Rattle.sbp_world.proofs.Wire.ToldBytes.{AreTold, happened_fits}
+use Rattle.sbp_world.proofs.Wire.ToldBytes.{happened_fits}
+use Rattle.sbp_world.proofs.Wire.CommandBytes.{AreTold}
 use Rattle.sbp_world.proofs.Agents.Holders.{seats_after}
 use Rattle.sbp_world.proofs.Agents.Management.Holding.{Holding}
 use Rattle.sbp_world.proofs.Agents.Management.Lines.{all_heard, opens}

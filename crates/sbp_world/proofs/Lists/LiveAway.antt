@@ -23,7 +23,7 @@ use Rattle.sbp_world.proofs.Lists.ManageStays.{Calms, calm_rest}
 use Rattle.sbp_world.proofs.Lists.ManageTerms.{got_rests, ignored_rests, same_some, timed_rests}
 use Rattle.sbp_world.proofs.Common.{cond_on}
 use Rattle.sbp_world.proofs.Wire.OnceHere.{other_news}
-use Rattle.sbp_world.proofs.Hosts.Hands.{line_stays}
+use Rattle.sbp_world.proofs.Hosts.Outboxes.{line_stays}
 
 -- what such moments leave
 pub record Over (start : List Disk) (past now : List Moment) (i : ℕ) : Type 0 where

@@ -27,7 +27,7 @@ use Rattle.sbp_world.proofs.Common.{said_split}
 use Rattle.sbp_world.proofs.Lists.LiveCalled.{no_work}
 use Rattle.sbp_world.proofs.Lists.LiveLeads.{hands_before}
 use Rattle.sbp_world.proofs.Pointers.Asks.{act_allowed}
-use Rattle.sbp_world.proofs.Hosts.Hands.{line_stays as event_behind}
+use Rattle.sbp_world.proofs.Hosts.Outboxes.{line_stays as event_behind}
 
 -- ---- the notes of a turn
 

@@ -38,7 +38,7 @@ use Rattle.sbp_world.proofs.Lists.PlaceOwners.{Owns, turn_owns}
 use Rattle.sbp_world.proofs.Lists.Sites.{Site, waiting}
 use Rattle.sbp_world.proofs.Lists.StillReads.{AreStill, IsHad, ahead_name, had_still, main_name, named_over, o, still_had}
 use Rattle.sbp_world.proofs.Lists.TurnReads.{Course, Gets, delivery_course, line_course, turn_over}
-use Rattle.sbp_world.proofs.Hosts.Hands.{line_stays as event_behind}
+use Rattle.sbp_world.proofs.Hosts.Outboxes.{line_stays as event_behind}
 use Rattle.sbp_world.proofs.Common.{untrue}
 
 -- ---- what is known of a place

@@ -12,7 +12,8 @@ use Rattle.sbp_world.proofs.FitTarget.Law.{fitting_law}
 use Rattle.sbp_world.proofs.Wire.Holding.{Sound}
 use Rattle.sbp_world.proofs.Wire.Runs.{sound_after}
 use Rattle.sbp_world.proofs.Wire.Sound.{next_heard, opens}
-use Rattle.sbp_world.proofs.Wire.ToldBytes.{AreTold, happened_fits}
+use Rattle.sbp_world.proofs.Wire.ToldBytes.{happened_fits}
+use Rattle.sbp_world.proofs.Wire.CommandBytes.{AreTold}
 use Rattle.sbp_world.proofs.Hosts.Runs.{are_told}
 use Rattle.sbp_world.proofs.Pointers.Calms.{AllCalm, IsCalm, acts_calm, delivers_calm, line_expires, line_sees, ticks}
 use Rattle.sbp_world.proofs.Common.{untrue}

@@ -15,11 +15,12 @@ use Rattle.sbp_world.specs.Nodes as nodes
 use Rattle.sbp_world.specs.Packets as packets
 use Rattle.sbp_world.proofs.FitInitiator.Law.{fitting_law as own_fitting_law}
 use Rattle.sbp_world.proofs.InitiatorForms as initiators
-use Rattle.sbp_world.proofs.Wire.Hears.{ours}
+use Rattle.sbp_world.proofs.Wire.OwnHears.{ours}
 use Rattle.sbp_world.proofs.Wire.Holding.{Sound, own_has, target_small}
 use Rattle.sbp_world.proofs.Hosts.ActLeft.{act_left}
 use Rattle.sbp_world.proofs.Hosts.Carries.{IsNoAct}
-use Rattle.sbp_world.proofs.Hosts.Hands.{all_own, second_tells, sight_tells, target_tells, line_stays as line_same}
+use Rattle.sbp_world.proofs.Hosts.Hands.{second_tells, sight_tells, target_tells}
+use Rattle.sbp_world.proofs.Hosts.Outboxes.{all_own, line_stays as line_same}
 use Rattle.sbp_world.proofs.Hosts.Layered.{AreTame, expire_left, is_tame, receive_left}
 use Rattle.sbp_world.proofs.Hosts.Liners.{own_notes}
 use Rattle.sbp_world.proofs.Hosts.PointSees.{see_left}

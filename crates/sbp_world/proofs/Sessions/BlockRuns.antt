@@ -22,7 +22,8 @@ use Rattle.sbp_world.proofs.Wire.Comes.{own_inside, own_outside, received_is, to
 use Rattle.sbp_world.proofs.Wire.Holding.{Sound, to_target}
 use Rattle.sbp_world.proofs.Wire.Runs.{sound_after}
 use Rattle.sbp_world.proofs.Wire.Sound.{next_heard, opens}
-use Rattle.sbp_world.proofs.Wire.ToldBytes.{AreTold, happened_fits}
+use Rattle.sbp_world.proofs.Wire.ToldBytes.{happened_fits}
+use Rattle.sbp_world.proofs.Wire.CommandBytes.{AreTold}
 use Rattle.sbp_world.proofs.Agents.Management.Holding.{is_of, past_terms, was_sent}
 use Rattle.sbp_world.proofs.Sessions.BlockCalls.{delivery_coded}
 use Rattle.sbp_world.proofs.Sessions.BlockLines.{B, acts, notes_on, own_hands, seconds, sights, target_hands, times_out}

@@ -15,7 +15,7 @@ use Rattle.sbp_world.specs.Packets as packets
 use Rattle.sbp_world.proofs.Wire.Bus.{holds}
 use Rattle.sbp_world.proofs.Wire.Entered.{number_small, waiting_expires}
 use Rattle.sbp_world.proofs.Wire.Found.{id_known}
-use Rattle.sbp_world.proofs.Wire.Received.{IsTarget}
+use Rattle.sbp_world.proofs.Wire.Arrivals.{IsTarget}
 use Rattle.sbp_world.proofs.Wire.UnderWay.{at_own_is, at_target_is, layer_ok, own_ok, target_ok}
 
 -- the transaction that a serial is under way for

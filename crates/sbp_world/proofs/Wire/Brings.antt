@@ -1,6 +1,6 @@
 -- What each line of the bus brings, in the words of the laws: which packets it delivers, and when it is refused.
 use Rattle.sbp_world.proofs.Words.Std.{is_none, if◌then◌else◌, reverse, arith, sym, ◌∙◌, ap, subst, inl, inr}
-use Rattle.sbp_world.proofs.Words.Wire.{Sent, found_sent, first, flying, is_flying, Stored, Moment, said, Terms, terms, Note, Request, topology_at, destination_in, no_packet, end_note, find}
+use Rattle.sbp_world.proofs.Words.Wire.{Sent, found_sent, first, flying, is_flying, Stored, Moment, said, Terms, terms, Note, Request, topology_at, destination_in, no_packet, end_note, find, OutboxState}
 use Rattle.sbp_world.proofs.Words.Target.{Told, with_key}
 use Rattle.sbp_world.proofs.Words.Laws.{flies, lowest_in_flight, AreDeliveries, EndsSettle, IsDelivery, IsTurnOf, NoneFlies, SettlesWithin, deliveries, once_told, Either, law_injected, may_inject, law_repeats, node_from, law_refused, is_under_way}
 use Rattle.sbp_world.proofs.Words.World.{delivered, keyed, reset_line, see_line, tick_line, delivered_if, expires, first_told, inject_line, injected, injected_to, is_in_flight, lose_line, lost, may_repeat, refused, timed_out, timeout_line, timeout_of, posted, AreUpTo, MayAll, MayNext, after_all, delivered_at, delivered_next, is_settled, lowest, settled, Scene, WorldState, initiator_at, with_note, with_target, without_notes, OwnFittingLaw, BytesTold, FittingLaw, Stands}
@@ -9,20 +9,21 @@ use Rattle.sbp_journal.specs.declared.note.Note.TheVariants as notes
 use Rattle.sbp_world.specs.Settling.{MayAt}
 use Rattle.bus_transactions.proofs.Follows.{last_is}
 use Rattle.sbp_world.proofs.Wire.Bus.{holds}
-use Rattle.sbp_world.proofs.Wire.Hears.{ours}
+use Rattle.sbp_world.proofs.Wire.OwnHears.{ours}
 use Rattle.sbp_world.proofs.Wire.Holding.{Sound}
 use Rattle.sbp_world.proofs.Wire.Kept.{flies_is, flying_found, lowest_is, repeats_is}
 use Rattle.sbp_world.proofs.Wire.Lowest.{AreMany, delivery_alone, none_yet, one_more, reversed, told_once, turn_alone}
 use Rattle.sbp_world.proofs.Wire.Names.{goes_to}
-use Rattle.sbp_world.proofs.Wire.Received.{IsTarget}
+use Rattle.sbp_world.proofs.Wire.Arrivals.{IsTarget}
 use Rattle.sbp_world.proofs.Wire.Sound.{first_flies, next_heard}
-use Rattle.sbp_world.proofs.Wire.ToldBytes.{AreTold}
-use Rattle.sbp_world.proofs.Wire.Turned.{Delivered, Turned, delivers, lapse_turns, second_turns, sight_turns, stale_refuses}
+use Rattle.sbp_world.proofs.Wire.CommandBytes.{AreTold}
+use Rattle.sbp_world.proofs.Wire.Turned.{delivers, ends, second_turns, sight_turns}
+use Rattle.sbp_world.proofs.Wire.Turns.{Delivered, Ends, Turned, ended_refuses, ended_turns}
 use Rattle.sbp_world.proofs.Wire.Awaiting.{under_way_expires}
 use Rattle.sbp_world.proofs.Wire.UnderWay.{expired_was}
 use Rattle.sbp_world.proofs.Common.{and_second}
 
-some_sent : (o : Option Sent) → is_some o ≡ true → (sent : Sent) × (o ≡ Some sent)
+pub some_sent : (o : Option Sent) → is_some o ≡ true → (sent : Sent) × (o ≡ Some sent)
 some_sent None e = cc
 some_sent (Some sent) e = (sent, refl)
 
@@ -34,17 +35,17 @@ module _ {past : List Moment} (w : WorldState) (h : Stands past w) where
   pub flies_here : (serial : ℕ) → is_flying serial w.store.kept ≡ flies (now.flight serial)
   flies_here serial = ap (λ (st : Stored). is_flying serial st.kept) (sym h.is.store_is) ∙ flies_is (holds h.wire h.reached).follows serial
 
-  repeats_here : (serial : ℕ) → may_repeat serial w ≡ law_repeats now serial
+  pub repeats_here : (serial : ℕ) → may_repeat serial w ≡ law_repeats now serial
   repeats_here serial =
       ap (λ (st : Stored). nat_lt (st.last - 1024) serial && is_some (found_sent serial st.kept)) (sym h.is.store_is)
       ∙ repeats_is (holds h.wire h.reached).follows serial
 
-  lowest_here : lowest w ≡ lowest_in_flight now
+  pub lowest_here : lowest w ≡ lowest_in_flight now
   lowest_here =
       ap (λ (st : Stored). first (flying st.kept)) (sym h.is.store_is)
       ∙ lowest_is now (holds h.wire h.reached).facts h.wire.store (holds h.wire h.reached).follows
 
-  found_here : (serial : ℕ) → is_flying serial w.store.kept ≡ true → is_some (found_sent serial w.store.kept) ≡ true
+  pub found_here : (serial : ℕ) → is_flying serial w.store.kept ≡ true → is_some (found_sent serial w.store.kept) ≡ true
   found_here serial e =
       ap (λ (st : Stored). is_some (found_sent serial st.kept)) (sym h.is.store_is)
       ∙ flying_found (holds h.wire h.reached).follows serial (ap (λ (st : Stored). is_flying serial st.kept) h.is.store_is ∙ e)
@@ -56,15 +57,19 @@ kept_delivers s h serial again told e =
     delivers serial again told s f.0 f.1 (ours s.world h serial f.0 f.1).to
 
 -- ---- one packet
+-- a delivery, or a refusal
+pub brings_if : (line serial : ℕ) (b : Bool) (delivered_so : WorldState) (w : WorldState) → w.fresh ≡ [] → (b ≡ true → Delivered serial w.fresh delivered_so.fresh) → let new = reverse (if b then delivered_so else refused line no_packet w).fresh in Either b (IsDelivery serial new) (new ≡ law_refused line 11)
+brings_if line serial true new w none d = delivery_alone serial new.fresh (subst (λ ns. Delivered serial ns new.fresh) none (d refl))
+brings_if line serial false new w none d = ap (λ ns. reverse (notes.Refused line no_packet ∷ ns)) none
+
 module _ {past : List Moment} (s : Scene) (h : Stands past s.world) (line serial : ℕ) where
   abbrev t : Terms
   t = terms h.wire.past
 
   delivers_if : (again b : Bool) (told : List (Option Told)) → (b ≡ true → is_some (found_sent serial s.world.store.kept) ≡ true) → s.world.fresh ≡ [] → Either b (IsDelivery serial (reverse (delivered_if b line serial again told s).world.fresh)) (reverse (delivered_if b line serial again told s).world.fresh ≡ law_refused line 11)
   delivers_if again true told found none =
-      let new = (delivered serial again (first_told told) s).world.fresh in
-      delivery_alone serial new (subst (λ ns. Delivered serial ns new) none (kept_delivers s h serial again (first_told told) (found refl)))
-  delivers_if again false told found none = ap (λ ns. reverse (notes.Refused line no_packet ∷ ns)) none
+      brings_if line serial true (delivered serial again (first_told told) s).world s.world none (λ e. kept_delivers s h serial again (first_told told) (found refl))
+  delivers_if again false told found none = brings_if line serial false s.world s.world none (λ e. cc)
 
   pub deliver_brings : (told : List (Option Told)) → s.world.fresh ≡ [] → let new = reverse (delivered_if (is_in_flight serial s.world) line serial false told s).world.fresh in Either (flies (t.flight serial)) (IsDelivery serial new) (new ≡ law_refused line 11)
   deliver_brings told none =
@@ -91,13 +96,19 @@ module _ {past : List Moment} (w : WorldState) (h : Stands past w) (line serial 
   lose_brings none = lose_by (is_in_flight serial w) none ∙ ap (λ b. if b then notes.Lost serial ∷ [] else law_refused line 11) (flies_here w h serial)
 
   -- ---- a time-out
-  module _ (aimed : (i : ℕ) → i < length w.initiators → IsTarget w (suc i) (initiator_at w i).target) (none : w.fresh ≡ []) where
+  -- whatever the sender of a request hands out, where it finds the request as the world does
+  module _ (aimed : (i : ℕ) → i < length w.initiators → IsTarget w (suc i) (initiator_at w i).target) (none : w.fresh ≡ []) (left : Request → Bool × (OutboxState × WorldState)) (same : (request : Request) → (left request).0 ≡ (expires request w).0) (ends_so : (request : Request) → Ends (left request) w) where
+    abbrev pub left_of : Option Request → WorldState
+    left_of None = refused line no_packet w
+    left_of (Some request) = timed_out line serial request.node (left request)
+
     abbrev told_of : Option Request → List Note
-    told_of o = reverse (timeout_of o line serial w).fresh
+    told_of o = reverse (left_of o).fresh
 
     stale_by : (request : Request) (b : Bool) → is_under_way terms_now serial ≡ false → find w.requests serial ≡ Some request → (expires request w).0 ≡ b → told_of (Some request) ≡ law_refused line 11
     stale_by request true stale found e = let yes = expired_was w h serial request found aimed e in cc
-    stale_by request false stale found e = ap reverse (stale_refuses line serial request w e) ∙ ap (λ ns. reverse (notes.Refused line no_packet ∷ ns)) none
+    stale_by request false stale found e =
+        ap reverse (ended_refuses line serial request.node (left request) w (same request ∙ e) (ends_so request)) ∙ ap (λ ns. reverse (notes.Refused line no_packet ∷ ns)) none
 
     refused_by : (o : Option Request) → is_under_way terms_now serial ≡ false → find w.requests serial ≡ o → told_of o ≡ law_refused line 11
     refused_by None stale e = ap (λ ns. reverse (notes.Refused line no_packet ∷ ns)) none
@@ -106,14 +117,28 @@ module _ {past : List Moment} (w : WorldState) (h : Stands past w) (line serial 
     times_out_by : (b : Bool) → is_under_way terms_now serial ≡ b → Either b (IsTurnOf (notes.TimedOut serial) (told_of (find w.requests serial))) (told_of (find w.requests serial) ≡ law_refused line 11)
     times_out_by true e =
         let f = under_way_expires w h serial aimed e in
+        let new = (timed_out line serial f.request.node (left f.request)).fresh in
         subst (λ o. IsTurnOf (notes.TimedOut serial) (told_of o)) (sym f.found)
-        (turn_alone (notes.TimedOut serial) (timed_out line serial f.request.node (expires f.request w)).fresh
-        (subst (λ ns. Turned (notes.TimedOut serial) ns (timed_out line serial f.request.node (expires f.request w)).fresh) none (lapse_turns line serial f.request w f.expires)))
+        (turn_alone (notes.TimedOut serial) new
+        (subst (λ ns. Turned (notes.TimedOut serial) ns new) none (ended_turns line serial f.request.node (left f.request) w (same f.request ∙ f.expires) (ends_so f.request))))
     times_out_by false e = refused_by (find w.requests serial) e refl
+
+    pub lapse_brings : let told = reverse (left_of (find w.requests serial)).fresh in Either (is_under_way terms_now serial) (IsTurnOf (notes.TimedOut serial) told) (told ≡ law_refused line 11)
+    lapse_brings = times_out_by (is_under_way terms_now serial) refl
+
+  -- in a world
+  module _ (aimed : (i : ℕ) → i < length w.initiators → IsTarget w (suc i) (initiator_at w i).target) (none : w.fresh ≡ []) where
+    abbrev WorldBrings : WorldState → Type 0
+    WorldBrings new = Either (is_under_way terms_now serial) (IsTurnOf (notes.TimedOut serial) (reverse new.fresh)) (reverse new.fresh ≡ law_refused line 11)
+
+    same_line : (o : Option Request) → left_of aimed none (λ request. expires request w) (λ request. refl) (λ request. ends request w) o ≡ timeout_of o line serial w
+    same_line None = refl
+    same_line (Some request) = refl
 
     pub timeout_brings : let told = reverse (timeout_line line serial w).fresh in Either (is_under_way terms_now serial) (IsTurnOf (notes.TimedOut serial) told) (told ≡ law_refused line 11)
     unfolding timeout_line
-    timeout_brings = times_out_by (is_under_way terms_now serial) refl
+    timeout_brings =
+        subst WorldBrings (same_line (find w.requests serial)) (lapse_brings aimed none (λ request. expires request w) (λ request. refl) (λ request. ends request w))
 
 -- ---- an injected packet
 module _ {past : List Moment} (w : WorldState) (h : Stands past w) (line i : ℕ) (inside : i < length w.initiators) (bytes : List ℕ) (none : w.fresh ≡ []) where
@@ -171,9 +196,54 @@ module _ {past : List Moment} (w : WorldState) (h : Stands past w) (none : w.fre
       key_by line unit key (nat_lt unit (length w.target.units)) ∙ ap (λ n. if nat_lt unit n then notes.Key unit ∷ [] else law_refused line 13) e
 
 -- ---- deliveries one after the other
-none_next : {past : List Moment} {lines : ℕ} (w : WorldState) (sound : Sound past lines w) → lowest w ≡ None → NoneFlies (once_told past (reverse w.fresh))
-none_next {past} w sound e =
-    ap (λ ms. lowest_in_flight (terms ms)) (told_once past w.fresh ∙ sym sound.stands.is.past_is) ∙ sym (lowest_here w sound.stands) ∙ e
+pub none_next : {past : List Moment} (w : WorldState) (h : Stands past w) → lowest w ≡ None → NoneFlies (once_told past (reverse w.fresh))
+none_next {past} w h e =
+    ap (λ ms. lowest_in_flight (terms ms)) (told_once past w.fresh ∙ sym h.is.past_is) ∙ sym (lowest_here w h) ∙ e
+
+few_or_all : (most have : ℕ) → have ≤ most → (most ≡ have) ⊎ (have < most)
+few_or_all most have l = by_test (nat_lt have most) refl
+  where
+    by_test : (b : Bool) → nat_lt have most ≡ b → (most ≡ have) ⊎ (have < most)
+    by_test true e = inr (grind arith)
+    by_test false e = inl (grind arith)
+
+all_by : (most have counted : ℕ) (Rests : Type 0) → counted ≡ have → (have < most → Rests) → (most ≡ have) ⊎ (have < most) → (counted ≡ most) ⊎ Rests
+all_by most have counted Rests e rest (inl same) = inl (e ∙ sym same)
+all_by most have counted Rests e rest (inr l) = inr (rest l)
+
+-- so many deliveries of the lowest packets, and a world behind them that stands
+module _ {past : List Moment} (w : WorldState) (h : Stands past w) (most have : ℕ) (many : AreMany past have w.fresh) (few : have ≤ most) (all : have < most → lowest w ≡ None) where
+  pub many_bring : AreDeliveries past most (reverse w.fresh)
+  many_bring =
+      let count = many.count in
+      record {
+        begins = many.begins;
+        lowest = many.lowest;
+        few = omega (arith, count, few);
+        all = all_by most have (deliveries (reverse w.fresh)) (NoneFlies (once_told past (reverse w.fresh))) count (λ l. none_next w h (all l)) (few_or_all most have few);
+      }
+
+  many_end : (o : Option ℕ) → lowest w ≡ o → EndsSettle past most (reverse w.fresh) (end_note (is_none o))
+  many_end None e = none_next w h e
+  many_end (Some serial) e =
+      (many.count ∙ full_by (λ l. some_none serial (sym e ∙ all l)) (few_or_all most have few), λ none. some_none serial (sym e ∙ lowest_here w h ∙ ap (λ ms. lowest_in_flight (terms ms)) (h.is.past_is ∙ sym (told_once past w.fresh)) ∙ none))
+    where
+      full_by : (have < most → ⊥) → (most ≡ have) ⊎ (have < most) → have ≡ most
+      full_by never (inl e) = sym e
+      full_by never (inr l) = absurd (never l)
+
+      some_none : (serial : ℕ) → Some serial ≡ None → ⊥
+      some_none serial e = cc
+
+  -- and a settle of them
+  pub many_settle : SettlesWithin most past (reverse (with_note (end_note (is_settled w)) w).fresh)
+  many_settle = record {
+    before = reverse w.fresh;
+    last = end_note (is_settled w);
+    is = reversed (end_note (is_settled w)) w.fresh;
+    delivers = many_bring;
+    ends = many_end (lowest w) refl;
+  }
 
 module _ (targets : FittingLaw) (initiators : OwnFittingLaw) {past : List Moment} {lines : ℕ} (start : Scene) (sound : Sound past lines start.world) (none : start.world.fresh ≡ []) (once : (terms past).repeats ≡ false) where
   -- the deliveries so far, and that the world stands
@@ -200,55 +270,13 @@ module _ (targets : FittingLaw) (initiators : OwnFittingLaw) {past : List Moment
       let n = next_by told fits.0 before (ran before fits.1 may.1) (lowest (after_all before start).world) refl may.0 in
       record { sound_now = n.0; many = n.1 }
 
-  few_or_all : (most have : ℕ) → have ≤ most → (most ≡ have) ⊎ (have < most)
-  few_or_all most have l = by_test (nat_lt have most) refl
-    where
-      by_test : (b : Bool) → nat_lt have most ≡ b → (most ≡ have) ⊎ (have < most)
-      by_test true e = inr (grind arith)
-      by_test false e = inl (grind arith)
-
-  all_by : (most have counted : ℕ) (Rests : Type 0) → counted ≡ have → (have < most → Rests) → (most ≡ have) ⊎ (have < most) → (counted ≡ most) ⊎ Rests
-  all_by most have counted Rests e rest (inl same) = inl (e ∙ sym same)
-  all_by most have counted Rests e rest (inr l) = inr (rest l)
-
   pub up_to_brings : (most : ℕ) (told : List (Option Told)) → AreTold told → AreUpTo most told start → AreDeliveries past most (reverse (after_all told start).world.fresh)
   up_to_brings most told fits may =
       let r = ran told fits may.may in
-      let w = (after_all told start).world in
-      let count = r.many.count in
-      let few = may.few in
-      record {
-        begins = r.many.begins;
-        lowest = r.many.lowest;
-        few = omega (arith, count, few);
-        all = all_by most (length told) (deliveries (reverse w.fresh)) (NoneFlies (once_told past (reverse w.fresh))) count (λ l. none_next w r.sound_now (may.all l)) (few_or_all most (length told) few);
-      }
+      many_bring (after_all told start).world r.sound_now.stands most (length told) r.many may.few may.all
 
   -- ---- and a settle
-  ends_by : (most : ℕ) (told : List (Option Told)) → AreTold told → AreUpTo most told start → (o : Option ℕ) → lowest (after_all told start).world ≡ o → EndsSettle past most (reverse (after_all told start).world.fresh) (end_note (is_none o))
-  ends_by most told fits may None e = none_next (after_all told start).world (ran told fits may.may).sound_now e
-  ends_by most told fits may (Some serial) e =
-      let r = ran told fits may.may in
-      let w = (after_all told start).world in
-      let few = may.few in
-      let count = r.many.count in
-      let full : (most ≡ length told) ⊎ (length told < most) → length told ≡ most = full_by (length told) most (λ l. some_none serial (sym e ∙ may.all l)) in
-      (count ∙ full (few_or_all most (length told) few), λ none. some_none serial (sym e ∙ lowest_here w r.sound_now.stands ∙ ap (λ ms. lowest_in_flight (terms ms)) (r.sound_now.stands.is.past_is ∙ sym (told_once past w.fresh)) ∙ none))
-    where
-      full_by : (have most : ℕ) → (have < most → ⊥) → (most ≡ have) ⊎ (have < most) → have ≡ most
-      full_by have most never (inl e) = sym e
-      full_by have most never (inr l) = absurd (never l)
-
-      some_none : (serial : ℕ) → Some serial ≡ None → ⊥
-      some_none serial e = cc
-
   pub settle_brings : (most : ℕ) (told : List (Option Told)) → AreTold told → AreUpTo most told start → SettlesWithin most past (reverse (settled told start).world.fresh)
   settle_brings most told fits may =
-      let w = (after_all told start).world in
-      record {
-        before = reverse w.fresh;
-        last = end_note (is_settled w);
-        is = reversed (end_note (is_settled w)) w.fresh;
-        delivers = up_to_brings most told fits may;
-        ends = ends_by most told fits may (lowest w) refl;
-      }
+      let r = ran told fits may.may in
+      many_settle (after_all told start).world r.sound_now.stands most (length told) r.many may.few may.all

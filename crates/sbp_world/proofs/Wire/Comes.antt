@@ -24,12 +24,17 @@ pub own_at : ℕ → Sent → Scene → Option Arrival × (OutboxState × Scene)
 own_at j sent s =
     if nat_lt j (length s.world.initiators) then at_initiator sent.to (initiators_received j sent s.world.initiators) s else at_none s
 
-pub to_own : (told : Option Told) (serial i : ℕ) (s : Scene) (sent : Sent) → found_sent serial s.world.store.kept ≡ Some sent → sent.to ≡ suc i → received_step told serial s ≡ own_at i sent s
-unfolding own_at
-to_own told serial i s sent found e =
+pub to_initiator : (told : Option Told) (serial i : ℕ) (s : Scene) (sent : Sent) → found_sent serial s.world.store.kept ≡ Some sent → sent.to ≡ suc i → received_step told serial s ≡ initiator_received sent s
+to_initiator told serial i s sent found e =
     received_is told serial s sent found
     ∙ ap (λ b. if b then at_target sent.to (target_received told sent s.world.target s.media) s else initiator_received sent s) (to_suc sent.to i e)
-    ∙ ap (λ j. own_at j sent s) (let x : sent.to - 1 ≡ i = omega arith in x)
+
+pub own_is : (i : ℕ) (s : Scene) (sent : Sent) → sent.to ≡ suc i → initiator_received sent s ≡ own_at i sent s
+unfolding own_at
+own_is i s sent e = ap (λ j. own_at j sent s) (let x : sent.to - 1 ≡ i = omega arith in x)
+
+pub to_own : (told : Option Told) (serial i : ℕ) (s : Scene) (sent : Sent) → found_sent serial s.world.store.kept ≡ Some sent → sent.to ≡ suc i → received_step told serial s ≡ own_at i sent s
+to_own told serial i s sent found e = to_initiator told serial i s sent found e ∙ own_is i s sent e
 
 pub own_inside : (sent : Sent) (i : ℕ) (s : Scene) → i < length s.world.initiators → own_at i sent s ≡ at_initiator sent.to (initiators_received i sent s.world.initiators) s
 unfolding own_at

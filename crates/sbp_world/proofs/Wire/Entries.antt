@@ -17,23 +17,24 @@ use Rattle.sbp_world.proofs.Wire.Bus.{holds}
 use Rattle.sbp_world.proofs.Wire.Brings.{deliver_brings, inject_brings, key_brings, lose_brings, repeat_brings, reset_brings, see_brings, settle_brings, tick_brings, timeout_brings, up_to_brings}
 use Rattle.sbp_world.proofs.Wire.Flown.{flown_are}
 use Rattle.sbp_world.proofs.Wire.Gains.{all_sent}
-use Rattle.sbp_world.proofs.Wire.Holding.{Sound, own_has, to_target}
+use Rattle.sbp_world.proofs.Wire.Holding.{OwnSound, Sound, own_has, own_sound, to_target}
 use Rattle.sbp_world.proofs.Wire.Lowest.{reversed}
 use Rattle.sbp_world.proofs.Wire.OnceHere.{once_here}
 use Rattle.sbp_world.proofs.Wire.OwnActs.{AreStepSides, IsStepSide, acts}
-use Rattle.sbp_world.proofs.Wire.Received.{IsTarget}
+use Rattle.sbp_world.proofs.Wire.Arrivals.{IsTarget}
 use Rattle.sbp_world.proofs.Wire.Runs.{sound_after}
 use Rattle.sbp_world.proofs.Wire.Sizes.{Sizes, happens_keeps, new_sizes, sizes}
 use Rattle.sbp_world.proofs.Wire.Sound.{opens}
 use Rattle.sbp_world.proofs.Wire.Spent.{weighs_after}
-use Rattle.sbp_world.proofs.Wire.ToldBytes.{AreTold, happened_fits}
+use Rattle.sbp_world.proofs.Wire.ToldBytes.{happened_fits}
+use Rattle.sbp_world.proofs.Wire.CommandBytes.{AreTold}
 
 -- ---- notes of the lines of the bus begin no run
 none_reversed : (ns : List Note) → NoneBegins ns → NoneBegins (reverse ns)
 none_reversed [] n = tt
 none_reversed (note ∷ ns) n = subst NoneBegins (sym (reversed note ns)) (none_append (reverse ns) (note ∷ []) (none_reversed ns n.1) (n.0, tt))
 
-none_back : (ns : List Note) → NoneBegins (reverse ns) → NoneBegins ns
+pub none_back : (ns : List Note) → NoneBegins (reverse ns) → NoneBegins ns
 none_back ns n = subst NoneBegins (reverse-reverse ns) (none_reversed (reverse ns) n)
 
 none_refused : (line number : ℕ) (told : List Note) → told ≡ law_refused line number → NoneBegins told
@@ -83,12 +84,12 @@ none_keyed true line unit told e = subst NoneBegins (sym e) (refl, tt)
 none_keyed false line unit told e = none_refused line 13 told e
 
 -- an action
-abbrev IsOfBus : Event → Type 0
+abbrev pub IsOfBus : Event → Type 0
 IsOfBus (events.Begin initiators ready) = ⊥
 IsOfBus (events.Act i action) = ⊥
 IsOfBus _ = Unit {0}
 
-none_by : (disks : List Disk) (past : List Moment) (line : ℕ) (event : Event) (told : List Note) → IsOfBus event → BringsLine disks past line event told → NoneBegins told
+pub none_by : (disks : List Disk) (past : List Moment) (line : ℕ) (event : Event) (told : List Note) → IsOfBus event → BringsLine disks past line event told → NoneBegins told
 none_by disks past line (events.Begin initiators ready) told o b = absurd o
 none_by disks past line (events.Act i action) told o b = absurd o
 none_by disks past line (events.Deliver serial) told o b = none_either (flies ((terms past).flight serial)) line serial told b
@@ -137,7 +138,7 @@ act_by (None, (outbox, state)) line i action w e none =
     let g = all_sent (i + 1) outbox.packets told_now in
     subst NoneBegins (sym g.is) (none_append g.more told_now.fresh (effects_none g.more g.effects) n)
 
-act_none : (line i : ℕ) (action : Action) (w : WorldState) → w.fresh ≡ [] → NoneBegins (acted line i action w).fresh
+pub act_none : (line i : ℕ) (action : Action) (w : WorldState) → w.fresh ≡ [] → NoneBegins (acted line i action w).fresh
 unfolding acted
 act_none line i action w none = act_by (act_step action empty_outbox (initiator_at w i)) line i action w (acts action empty_outbox (initiator_at w i) tt) none
 
@@ -147,28 +148,31 @@ tie_all line run [] = refl
 tie_all line run (e ∷ before) = ap (λ ms. map said e.notes ++ asked e.line e.event ∷ ms) (tie_all line run before)
 
 -- ---- a line
+-- an initiator asks the target
+pub own_aims : OwnFittingLaw → {past : List Moment} {lines : ℕ} (w : WorldState) → OwnSound past lines w → (i : ℕ) → i < length w.initiators → IsTarget w (suc i) (initiator_at w i).target
+own_aims own_fits w sound i inside =
+    to_target w.generations.seen i (initiator_at w i).target
+    ((own_fits (own_has w.generations.seen i) (own_has w.generations.seen i)).target_there (initiator_at w i) (sound.own.holds i inside))
+
+-- what a world counts for a settle is what the law says
+pub counts_settle : {past : List Moment} (w : WorldState) → Stands past w → length w.initiators ≡ initiators (map said w.fresh ++ past) → lists_weight w.loads ≡ shares (map said w.fresh ++ past) (map said w.fresh ++ past) → (line : ℕ) → budget (without_notes w) ≡ settle_deliveries (asked line events.Settle ∷ (map said w.fresh ++ past))
+unfolding budget
+counts_settle {past} w h counted weighs line =
+    let before : List Moment = map said w.fresh ++ past in
+    let flown : length (flying w.store.kept) ≡ count_flying (terms before).flight (terms before).count =
+    ap (λ (st : Stored). length (flying st.kept)) (sym h.is.store_is)
+    ∙ (sym (flown_are (holds h.wire h.reached).follows) ∙ ap (λ p. count_flying (terms p).flight (terms p).count) h.is.past_is) in
+    ap (λ x. min (4 * x + lists_weight w.loads + 600 * length w.initiators) most_deliveries) flown
+    ∙ (ap (λ x. min (4 * count_flying (terms before).flight (terms before).count + x + 600 * length w.initiators) most_deliveries) weighs
+    ∙ ap (λ x. min (4 * count_flying (terms before).flight (terms before).count + shares before before + 600 * x) most_deliveries) counted)
+
 module _ (targets : FittingLaw) (own_fits : OwnFittingLaw) where
-  -- an initiator asks the target
   aims : {past : List Moment} {lines : ℕ} (w : WorldState) → Sound past lines w → (i : ℕ) → i < length w.initiators → IsTarget w (suc i) (initiator_at w i).target
-  aims w sound i inside =
-      to_target w.generations.seen i (initiator_at w i).target
-      ((own_fits (own_has w.generations.seen i) (own_has w.generations.seen i)).target_there (initiator_at w i) (sound.nodes.own.holds i inside))
+  aims w sound i inside = own_aims own_fits w (own_sound sound) i inside
 
   module _ {past : List Moment} {lines : ℕ} (disks : List Disk) (s : Scene) (sound : Sound past lines s.world) (units : length s.world.target.units ≡ length disks) (counted : length s.world.initiators ≡ initiators (map said s.world.fresh ++ past)) (weighs : lists_weight s.world.loads ≡ shares (map said s.world.fresh ++ past) (map said s.world.fresh ++ past)) where
     abbrev before : List Moment
     before = map said s.world.fresh ++ past
-
-    -- what the world counts for a settle is what the law says
-    budget_here : (line : ℕ) → budget (begun s).world ≡ settle_deliveries (asked line events.Settle ∷ before)
-    unfolding budget
-    budget_here line =
-        let h = sound.stands in
-        let flown : length (flying s.world.store.kept) ≡ count_flying (terms before).flight (terms before).count =
-        ap (λ (st : Stored). length (flying st.kept)) (sym h.is.store_is)
-        ∙ (sym (flown_are (holds h.wire h.reached).follows) ∙ ap (λ p. count_flying (terms p).flight (terms p).count) h.is.past_is) in
-        ap (λ x. min (4 * x + lists_weight s.world.loads + 600 * length s.world.initiators) most_deliveries) flown
-        ∙ (ap (λ x. min (4 * count_flying (terms before).flight (terms before).count + x + 600 * length s.world.initiators) most_deliveries) weighs
-        ∙ ap (λ x. min (4 * count_flying (terms before).flight (terms before).count + shares before before + 600 * x) most_deliveries) counted)
 
     brings_line : (line : ℕ) (event : Event) (told_now : List (Option Told)) → IsLine event (length s.world.initiators) → AreTold told_now → MayTellIn event told_now (begun s) → BringsLine disks before line event (reverse (happens_to line event told_now (begun s)).world.fresh)
     brings_line line (events.Begin n ready) told_now q t may = absurd q
@@ -196,7 +200,7 @@ module _ (targets : FittingLaw) (own_fits : OwnFittingLaw) where
     brings_line line (events.Step count) told_now q t may =
         up_to_brings targets own_fits (begun s) (opens line (events.Step count) s.world refl sound) refl refl count told_now t may
     brings_line line events.Settle told_now q t may =
-        subst (λ most. SettlesWithin most (asked line events.Settle ∷ before) (reverse (happens_to line events.Settle told_now (begun s)).world.fresh)) (budget_here line)
+        subst (λ most. SettlesWithin most (asked line events.Settle ∷ before) (reverse (happens_to line events.Settle told_now (begun s)).world.fresh)) (counts_settle s.world sound.stands counted weighs line)
         (settle_brings targets own_fits (begun s) (opens line events.Settle s.world refl sound) refl refl (budget (begun s).world) told_now t may)
     brings_line line (events.Reset physical) told_now q t may =
         reset_brings s.world sound.stands physical ∙ ap (λ p. notes.Reset ((terms p).bus + 1) ∷ []) sound.stands.is.past_is
@@ -257,7 +261,7 @@ module _ (targets : FittingLaw) (own_fits : OwnFittingLaw) where
       }
 
 -- ---- each note has its form
-forms_of : (notes_now : List Note) (past : List Moment) → AllByRecursion HasForm notes_now → EachMoment HasFormAt past → EachMoment HasFormAt (map said notes_now ++ past)
+pub forms_of : (notes_now : List Note) (past : List Moment) → AllByRecursion HasForm notes_now → EachMoment HasFormAt past → EachMoment HasFormAt (map said notes_now ++ past)
 forms_of [] past f e = e
 forms_of (note ∷ ns) past f e = (f.0, forms_of ns past f.1 e)
 

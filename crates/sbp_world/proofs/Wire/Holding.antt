@@ -1,5 +1,5 @@
 -- What holds of the nodes of a world beside its wire: each knows the nodes that it asks, by their IDs in its generation.
-use Rattle.sbp_world.proofs.Words.Std.{slice_index_or, slice_set, arith, sym, subst, get_or-set_at, get_or-set_other}
+use Rattle.sbp_world.proofs.Words.Std.{slice_index_or, slice_set, arith, sym, ◌∙◌, subst, get_or-set_at, get_or-set_other}
 use Rattle.sbp_world.proofs.Words.Wire.{Moment, Topology, GenerationsState, id_of, no_topology}
 use Rattle.sbp_world.proofs.Words.Target.{NodeState}
 use Rattle.sbp_world.proofs.Words.Initiator.{InitiatorState, new_state}
@@ -55,6 +55,20 @@ pub record Sound (past : List Moment) (lines : ℕ) (w : WorldState) : Type 0 wh
   pub stands : Stands past w
   pub nodes : NodesOf w lines
 
+-- the wire of a world and its initiators, whatever its target knows
+pub record OwnSound (past : List Moment) (lines : ℕ) (w : WorldState) : Type 0 where
+  pub stands : Stands past w
+  pub own : OwnNodes w.generations.seen w.initiators lines
+
+abbrev pub own_sound : {past : List Moment} {lines : ℕ} {w : WorldState} → Sound past lines w → OwnSound past lines w
+own_sound s = record { stands = s.stands; own = s.nodes.own }
+
+-- So is another world, with the target and the generations of this one.
+pub record OwnGoes (past : List Moment) (lines : ℕ) (w v : WorldState) : Type 0 where
+  pub sound : OwnSound past lines v
+  pub target : v.target ≡ w.target
+  pub generations : v.generations ≡ w.generations
+
 -- ---- another world with these nodes
 pub nodes_alike : (w v : WorldState) (lines : ℕ) → IsAlike w v → NodesOf w lines → NodesOf v lines
 nodes_alike w v lines a n =
@@ -65,10 +79,36 @@ nodes_alike w v lines a n =
 pub lands_sound : {past : List Moment} {lines : ℕ} (new v : WorldState) → Lands past new v → NodesOf new lines → Sound past lines v
 lands_sound {lines = lines} new v l n = record { stands = l.stands; nodes = nodes_alike new v lines l.alike n }
 
+pub own_alike : (w v : WorldState) (lines : ℕ) → IsAlike w v → OwnNodes w.generations.seen w.initiators lines → OwnNodes v.generations.seen v.initiators lines
+own_alike w v lines a n =
+    subst (λ (g : GenerationsState). OwnNodes g.seen v.initiators lines) (sym a.generations)
+    (subst (λ xs. OwnNodes w.generations.seen xs lines) (sym a.initiators) n)
+
+-- where the target is as it was
+pub lands_own : {past : List Moment} {lines : ℕ} (w new v : WorldState) → Lands past new v → new.target ≡ w.target → new.generations ≡ w.generations → OwnNodes new.generations.seen new.initiators lines → OwnGoes past lines w v
+lands_own {lines = lines} w new v l t g n = record {
+  sound = record { stands = l.stands; own = own_alike new v lines l.alike n };
+  target = l.alike.target ∙ t;
+  generations = l.alike.generations ∙ g;
+}
+
+-- and knows what it knew
+pub own_then : {past : List Moment} {lines before : ℕ} (w v : WorldState) → NodesOf w before → OwnGoes past lines w v → Sound past lines v
+own_then {lines = lines} w v n o = record {
+  stands = o.sound.stands;
+  nodes = record {
+    target_holds = subst (λ (g : GenerationsState). Holds (KnownTo g.seen) v.target) (sym o.generations) (subst (λ t. Holds (KnownTo w.generations.seen) t) (sym o.target) n.target_holds);
+    own = o.sound.own;
+  };
+}
+
+pub later_own : {seen : List Topology} {states : List InitiatorState} {lines : ℕ} → OwnNodes seen states lines → OwnNodes seen states (lines + 1)
+later_own n = record { holds = n.holds; counts = λ i l. let c = n.counts i l in omega arith }
+
 pub later : (w : WorldState) (lines : ℕ) → NodesOf w lines → NodesOf w (lines + 1)
 later w lines n = record {
   target_holds = n.target_holds;
-  own = record { holds = n.own.holds; counts = λ i l. let c = n.own.counts i l in omega arith };
+  own = later_own n.own;
 }
 
 -- the target has another state

@@ -24,7 +24,7 @@ use Rattle.sbp_world.proofs.Wire.Slotted.{present_key}
 use Rattle.sbp_world.proofs.Wire.TargetTells as target_tells
 
 module _ (past : List Moment) (most : ℕ) where
-  refuses : (line number : ℕ) (w : WorldState) → Balanced past most w → Balanced past most (refused line number w)
+  pub refuses : (line number : ℕ) (w : WorldState) → Balanced past most w → Balanced past most (refused line number w)
   refuses line number w b = notes_balance past most (notes.Refused line number) w refl b
 
   -- ---- a delivery
@@ -35,11 +35,11 @@ module _ (past : List Moment) (most : ℕ) where
   pick_arrives serial again true x y h i = h
   pick_arrives serial again false x y h i = i refl
 
-  judged_balances : (serial : ℕ) (judged : Judged) (w : WorldState) → Balanced past most w → Balanced past most (with_note (judged_note serial judged) w)
+  pub judged_balances : (serial : ℕ) (judged : Judged) (w : WorldState) → Balanced past most w → Balanced past most (with_note (judged_note serial judged) w)
   judged_balances serial judgements.Got w b = notes_balance past most (notes.Got serial) w refl b
   judged_balances serial (judgements.Ignored cause) w b = notes_balance past most (notes.Ignored serial cause) w refl b
 
-  target_arrives : (serial : ℕ) (again : Bool) (node : ℕ) (r : Judged × (OutboxState × (NodeState × Held))) (s : Scene) → AreOtherSides r.1.0.sides → Balanced past most s.world → Arrives serial again (at_target node r s)
+  pub target_arrives : (serial : ℕ) (again : Bool) (node : ℕ) (r : Judged × (OutboxState × (NodeState × Held))) (s : Scene) → AreOtherSides r.1.0.sides → Balanced past most s.world → Arrives serial again (at_target node r s)
   unfolding arrived
   target_arrives serial again node (judged, (outbox, (state, media))) s o b =
       let v = with_target state s.world in
@@ -85,7 +85,7 @@ module _ (past : List Moment) (most : ℕ) where
       counts_now : (serial_now : ℕ) (again_now : Bool) (judged : Judged) → CountsIn s.world.initiators most (history s.world past) s.world → CountsIn s.world.initiators most (history (with_note (judged_note serial judged) (marked serial again (record s.world { initiators = slice_set s.world.initiators i state }))) past) (with_note (judged_note serial judged) (marked serial again (record s.world { initiators = slice_set s.world.initiators i state })))
       counts_now serial_now again_now judged c = counts_by (again || not (is_flying serial s.world.store.kept)) judged (slice_set s.world.initiators i state) c
 
-  own_received : (serial : ℕ) (again : Bool) (packet : Sent) (s : Scene) → Balanced past most s.world → Arrives serial again (initiator_received packet s)
+  pub own_received : (serial : ℕ) (again : Bool) (packet : Sent) (s : Scene) → Balanced past most s.world → Arrives serial again (initiator_received packet s)
   unfolding initiators_received
   own_received serial again packet s b = by (nat_lt (packet.to - 1) (length s.world.initiators)) refl
     where
@@ -128,7 +128,7 @@ module _ (past : List Moment) (most : ℕ) where
   delivers_all [] s b = b
   delivers_all (told ∷ before) s b = delivers_next told (after_all before s) (delivers_all before s b)
 
-  settles_by : (c : Bool) (s : Scene) → Balanced past most s.world → Balanced past most (settled_from c s).world
+  pub settles_by : (c : Bool) (s : Scene) → Balanced past most s.world → Balanced past most (settled_from c s).world
   settles_by true s b = notes_balance past most notes.Settled s.world refl b
   settles_by false s b = notes_balance past most notes.Stopped s.world refl b
 
@@ -140,7 +140,7 @@ module _ (past : List Moment) (most : ℕ) where
   pick_ends line serial node true x y h i = h
   pick_ends line serial node false x y h i = i refl
 
-  target_ends : (line serial node : ℕ) (r : Result (Unit {0}) Stale × target.Scene) (w : WorldState) → AreOtherSides r.1.outbox.sides → Balanced past most w → Ends line serial node (packets.at_target (target_left r w.target) w)
+  pub target_ends : (line serial node : ℕ) (r : Result (Unit {0}) Stale × target.Scene) (w : WorldState) → AreOtherSides r.1.outbox.sides → Balanced past most w → Ends line serial node (packets.at_target (target_left r w.target) w)
   target_ends line serial node (Ok done, s) w o b =
       target_balances past most node 0 s.outbox s.node (with_note (notes.TimedOut serial) w) o (notes_balance past most (notes.TimedOut serial) w refl b)
   target_ends line serial node (Err stale, s) w o b = refuses line no_packet (with_target w.target w) (record { counted = b.counted; states = b.states })
@@ -168,7 +168,7 @@ module _ (past : List Moment) (most : ℕ) where
   unfolding expire_step
   silent label s e = stale_silent (expiring_step s.layer s.target label) s e
 
-  own_expires : (line serial : ℕ) (request : Request) (w : WorldState) → Balanced past most w → Ends line serial request.node (initiator_expires request w)
+  pub own_expires : (line serial : ℕ) (request : Request) (w : WorldState) → Balanced past most w → Ends line serial request.node (initiator_expires request w)
   own_expires line serial request w b = by (nat_lt (request.node - 1) (length w.initiators)) refl
     where
       by : (c : Bool) → nat_lt (request.node - 1) (length w.initiators) ≡ c → Ends line serial request.node (cond c (packets.at_initiator (request.node - 1) (expire_step request.label empty_outbox (initiator_at w (request.node - 1))) w) (false, (empty_outbox, w)))
@@ -244,7 +244,7 @@ module _ (past : List Moment) (most : ℕ) where
   resets_balance ids w b = notes_balance past most (notes.Reset _) _ refl (record { counted = b.counted; states = b.states })
 
   -- ---- other lines
-  loses_balance : (line serial : ℕ) (w : WorldState) → Balanced past most w → Balanced past most (lose_line line serial w)
+  pub loses_balance : (line serial : ℕ) (w : WorldState) → Balanced past most w → Balanced past most (lose_line line serial w)
   unfolding lose_line
   loses_balance line serial w b = by (is_in_flight serial w)
     where
@@ -270,7 +270,7 @@ module _ (past : List Moment) (most : ℕ) where
 
   -- ---- an action
   module _ (small : most + most_share < 2 ^ 64) where
-    more_balance : (w : WorldState) → Balanced past most w → Balanced past (most + most_share) w
+    pub more_balance : (w : WorldState) → Balanced past most w → Balanced past (most + most_share) w
     more_balance w b = record {
       counted = counted_more (length w.initiators) _ _ most (most + most_share) (history w past) w.places w.loads (omega arith) small b.counted;
       states = b.states;
@@ -303,7 +303,7 @@ module _ (past : List Moment) (most : ℕ) where
           (subst (λ (r : Option ℕ × Turn). Own past (weight_in action) x i (length w.initiators) inside (λ j. (state_at w.initiators j).lists.slots.lists) (λ j. present_key (state_at w.initiators j).lists.slots.present) (most + most_share) r.1.0.sides r.1.1.number r.1.1.lists.slots) e
           (own_acts x refl b.counted))
 
-      acts_balance : Balanced past (most + most_share) (acted line i action w)
+      pub acts_balance : Balanced past (most + most_share) (acted line i action w)
       unfolding acted
       acts_balance = acts_by (act_step action empty_outbox old) refl
 

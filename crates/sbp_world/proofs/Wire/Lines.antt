@@ -10,7 +10,8 @@ use Rattle.sbp_journal.specs.declared.note.Note.TheVariants as notes
 use Rattle.sbp_target.specs.Nodes as target
 use Rattle.sbp_world.specs.Nodes.{at_initiator}
 use Rattle.sbp_world.proofs.Wire.Bus.{refuses}
-use Rattle.sbp_world.proofs.Wire.Forgets.{IsSilent, seen_stays, sees_rests, ticked_stays}
+use Rattle.sbp_world.proofs.Wire.Forgets.{IsSilent, sees_rests}
+use Rattle.sbp_world.proofs.Wire.TargetForgets.{seen_stays, ticked_stays}
 use Rattle.sbp_world.proofs.Wire.Alike.{told_alike}
 use Rattle.sbp_world.proofs.Wire.Asks.{relayered}
 use Rattle.sbp_world.proofs.Wire.Nodes.{layers_alike}

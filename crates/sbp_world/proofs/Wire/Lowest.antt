@@ -5,7 +5,7 @@ use Rattle.sbp_world.proofs.Words.Laws.{lowest_in_flight, AreEffects, AreLowest,
 use Rattle.std.proofs.Common.{reverse}
 use Rattle.sbp_journal.specs.declared.note.Note.TheVariants as notes
 use Rattle.sbp_world.proofs.Wire.Gains.{effects_append}
-use Rattle.sbp_world.proofs.Wire.Turned.{Delivered, Turned}
+use Rattle.sbp_world.proofs.Wire.Turns.{Delivered, Turned}
 
 -- ---- in the order of time
 pub reversed : (note : Note) (ns : List Note) → reverse (note ∷ ns) ≡ reverse ns ++ note ∷ []

@@ -11,7 +11,7 @@ use Rattle.sbp_world.proofs.FitInitiator.Law.{fitting_law as own_fitting_law}
 use Rattle.sbp_world.proofs.FitTarget.Law.{fitting_law}
 use Rattle.sbp_world.specs.Wire.Lines.{RunLaw}
 use Rattle.sbp_world.proofs.Wire.Found.{known_has}
-use Rattle.sbp_world.proofs.Wire.Holding.{NodesOf, Sound, TargetOf, of_target, own_has, seen_at, state_at, target_has}
+use Rattle.sbp_world.proofs.Wire.Holding.{KnownTo, NodesOf, OwnNodes, Sound, TargetOf, of_target, own_has, seen_at, state_at, target_has}
 use Rattle.sbp_world.proofs.Wire.Sound.{line_goes}
 use Rattle.sbp_world.proofs.Wire.ToldBytes.{happened_fits}
 use Rattle.sbp_world.proofs.Wire.Starts.{begins, first_id, laws_of, states_at}
@@ -21,46 +21,55 @@ pub record SoundAfter (line : ℕ) (run : Run) (entries : List Entry) (w : World
   pub sound : Sound past (length entries) w
   pub is : map said w.fresh ++ past ≡ moments_behind line run entries
 
-module _ (targets : FittingLaw) (initiators : OwnFittingLaw) where
-  module _ (n : ℕ) (ready : Bool) (units : ℕ) (few : n ≤ 4) where
-    abbrev first_seen : List Topology
-    first_seen = replicate (n + 1) (first_topology (n + 1))
+-- ---- the initiators at the beginning
+module _ (n : ℕ) where
+  abbrev pub first_seen : List Topology
+  first_seen = replicate (n + 1) (first_topology (n + 1))
 
-    seen_is : (k : ℕ) → k ≤ n → seen_at first_seen k ≡ first_topology (n + 1)
-    seen_is k l = get_or-replicate (n + 1) k (first_topology (n + 1)) no_topology (omega arith)
+  seen_is : (k : ℕ) → k ≤ n → seen_at first_seen k ≡ first_topology (n + 1)
+  seen_is k l = get_or-replicate (n + 1) k (first_topology (n + 1)) no_topology (omega arith)
 
+  module _ (few : n ≤ 4) where
     id_at : (node k : ℕ) → node ≤ n → k ≤ n → id_of (seen_at first_seen node) k ≡ local_id k
     id_at node k l m = ap (λ t. id_of t k) (seen_is node l) ∙ sym (first_id (n + 1) k (omega arith) (omega arith))
 
-    few_ready : (r : Bool) (i : ℕ) → i < ready_logins n r → i < n
-    few_ready true i l = l
-    few_ready false i l = absurd (omega arith)
+    -- the target knows them
+    pub first_known : (i : ℕ) → i < n → KnownTo first_seen (0xffc1 + i)
+    first_known i there =
+        known_has (seen_at first_seen 0) n (0xffc1 + i) (ap (λ (t : Topology). length t.ids) (seen_is 0 (omega arith)) ∙ ids_size (n + 1) ∙ omega arith)
+        (record { node = suc i; there = omega (arith, there); id_is = id_at 0 (suc i) (omega arith) (omega (arith, there)) ∙ (let e : 65472 + suc i ≡ 0xffc1 + i = omega arith in e) })
 
     no_acts : (number : ℕ) (r : Bool) → (new_state number r).counts.acts ≡ 0
     unfolding new_state
     no_acts number true = refl
     no_acts number false = refl
 
-    first_nodes : NodesOf (new_world n ready units) 0
-    unfolding new_world
-    first_nodes =
+    pub first_own : OwnFittingLaw → (ready : Bool) → OwnNodes first_seen (new_initiators n ready) 0
+    first_own initiators ready =
         let size = initiators_size n ready in
         record {
-          target_holds = (targets (target_has first_seen) (target_has first_seen)).begins units (ready_logins n ready) (λ i l.
-              let there = few_ready ready i l in
-              known_has (seen_at first_seen 0) n (0xffc1 + i) (ap (λ (t : Topology). length t.ids) (seen_is 0 (omega arith)) ∙ ids_size (n + 1) ∙ omega arith)
-              (record { node = suc i; there = omega (arith, there); id_is = id_at 0 (suc i) (omega arith) (omega (arith, there)) ∙ (let e : 65472 + suc i ≡ 0xffc1 + i = omega arith in e) }));
-          own = record {
-            holds = λ i l.
-                let there : i < n = omega (arith, size, l) in
-                subst (λ (s : InitiatorState). OwnHolds (TargetOf first_seen i) s) (sym (states_at n i ready (new_state 0 false) there))
-                ((initiators (own_has first_seen i) (own_has first_seen i)).begins i ready (omega arith) (of_target first_seen i 0xffc0 (id_at (suc i) 0 there (omega arith))));
-            counts = λ i l.
-                let there : i < n = omega (arith, size, l) in
-                let none : (state_at (new_initiators n ready) i).counts.acts ≡ 0 = ap (λ (s : InitiatorState). s.counts.acts) (states_at n i ready (new_state 0 false) there) ∙ no_acts i ready in
-                omega arith;
-          };
+          holds = λ i l.
+              let there : i < n = omega (arith, size, l) in
+              subst (λ (s : InitiatorState). OwnHolds (TargetOf first_seen i) s) (sym (states_at n i ready (new_state 0 false) there))
+              ((initiators (own_has first_seen i) (own_has first_seen i)).begins i ready (omega arith) (of_target first_seen i 0xffc0 (id_at (suc i) 0 there (omega arith))));
+          counts = λ i l.
+              let there : i < n = omega (arith, size, l) in
+              let none : (state_at (new_initiators n ready) i).counts.acts ≡ 0 = ap (λ (s : InitiatorState). s.counts.acts) (states_at n i ready (new_state 0 false) there) ∙ no_acts i ready in
+              omega arith;
         }
+
+module _ (targets : FittingLaw) (initiators : OwnFittingLaw) where
+  module _ (n : ℕ) (ready : Bool) (units : ℕ) (few : n ≤ 4) where
+    few_ready : (r : Bool) (i : ℕ) → i < ready_logins n r → i < n
+    few_ready true i l = l
+    few_ready false i l = absurd (omega arith)
+
+    first_nodes : NodesOf (new_world n ready units) 0
+    unfolding new_world
+    first_nodes = record {
+      target_holds = (targets (target_has (first_seen n)) (target_has (first_seen n))).begins units (ready_logins n ready) (λ i l. first_known n few i (few_ready ready i l));
+      own = first_own n few initiators ready;
+    }
 
   sound_first : (line : ℕ) (run : Run) → run.initiators ≤ 4 → SoundAfter line run [] (beginning run).world
   unfolding new_world

@@ -1,22 +1,19 @@
 -- Each line of a world is a list of moves of the wire, and leaves nodes that know whom they ask.
-use Rattle.sbp_world.proofs.Words.Std.{if◌then◌else◌, slice_set, All, list_any, arith, sym, ◌∙◌, ap, subst, set-get_or}
-use Rattle.sbp_world.proofs.Words.Wire.{first, flying, is_flying, bare, AreSmall, is_plain, is_reset, ArePlainSides, IsAsking, Moment, asked, said, empty_outbox, terms, Action, Event, id_of, topology_at, no_packet, end_note}
+use Rattle.sbp_world.proofs.Words.Std.{if◌then◌else◌, All, list_any, arith, ◌∙◌, ap}
+use Rattle.sbp_world.proofs.Words.Wire.{first, flying, is_flying, is_plain, is_reset, Moment, asked, said, empty_outbox, terms, Action, Event, no_packet, end_note}
 use Rattle.sbp_world.proofs.Words.Target.{Told, ticked, with_key}
-use Rattle.sbp_world.proofs.Words.Initiator.{act_step, Turn, new_state, InitiatorState}
-use Rattle.sbp_world.proofs.Words.World.{handed_out, acted, acted_by, happens, keyed, no_unit, weight_in, reset_line, target_ticks, tick_line, delivered_if, first_told, injected, injected_to, inject_line, is_in_flight, lose_line, lost, may_repeat, refused, posted, after_all, delivered_at, delivered_next, lowest, settled, is_settled, WorldState, Scene, begun, initiator_at, with_initiator, with_note, with_target, without_notes, BytesAction, OwnFittingLaw, BytesTold, FittingLaw, IsLine, Stands, layer_in, layers_of}
-use Rattle.std.specs.Prelude.{◌≡◌, ◌≤◌, ◌<◌, ℕ, suc, ◌+◌, ◌^◌, ◌==◌, ◌||◌, nat_lt, Bool, true, false, List, [], ◌∷◌, ◌++◌, length, map, Option, Some, None, refl}
-use Rattle.std.proofs.lemmas.List.{length-set}
+use Rattle.sbp_world.proofs.Words.World.{handed_out, acted, happens, keyed, no_unit, reset_line, target_ticks, tick_line, delivered_if, first_told, injected, injected_to, inject_line, lose_line, may_repeat, refused, posted, after_all, delivered_at, delivered_next, lowest, settled, is_settled, WorldState, Scene, begun, with_note, with_target, without_notes, BytesAction, OwnFittingLaw, BytesTold, FittingLaw, IsLine}
+use Rattle.std.specs.Prelude.{◌≡◌, ◌<◌, ℕ, ◌+◌, ◌^◌, ◌==◌, ◌||◌, nat_lt, Bool, true, false, List, [], ◌∷◌, ◌++◌, length, map, Option, Some, None, refl}
 use Rattle.sbp_journal.specs.declared.event.Event.TheVariants as events
 use Rattle.sbp_journal.specs.declared.note.Note.TheVariants as notes
-use Rattle.sbp_initiator.proofs.FirstRow.{refusal_law}
 use Rattle.sbp_target.specs.Nodes as target
-use Rattle.sbp_world.proofs.Wire.ToldBytes.{AreTold}
-use Rattle.sbp_world.proofs.Wire.Bus.{injects, loses, refuses, resets}
-use Rattle.sbp_world.proofs.Wire.Handing.{Knowing, asks_out}
+use Rattle.sbp_world.proofs.Wire.CommandBytes.{AreTold}
+use Rattle.sbp_world.proofs.Wire.Bus.{injects, refuses, resets}
 use Rattle.sbp_world.proofs.Wire.Hears.{hears, times_out_line}
-use Rattle.sbp_world.proofs.Wire.Holding.{NodesOf, Sound, TargetOf, later, nodes_alike, own_has, target_has, target_small, to_target, with_own_holds, with_target_holds}
+use Rattle.sbp_world.proofs.Wire.Holding.{own_sound, own_then, NodesOf, Sound, later, nodes_alike, target_has, with_target_holds}
 use Rattle.sbp_world.proofs.Wire.Lines.{keys, ticks}
-use Rattle.sbp_world.proofs.Wire.Nodes.{Lands, handed_alike, nodes_beside, own_lands}
+use Rattle.sbp_world.proofs.Wire.OwnLines.{own_acts, own_loses}
+use Rattle.sbp_world.proofs.Wire.Nodes.{handed_alike}
 use Rattle.sbp_world.proofs.Wire.Repeats.{said_same}
 use Rattle.sbp_world.proofs.Wire.Sights.{sights}
 use Rattle.sbp_world.proofs.Wire.Tells.{starts, tells}
@@ -25,16 +22,8 @@ use Rattle.sbp_world.proofs.Wire.Tells.{starts, tells}
 pub refuses_line : {past : List Moment} {lines : ℕ} (w : WorldState) (line number : ℕ) → Sound past lines w → Sound past lines (refused line number w)
 refuses_line {past} w line number s = record { stands = refuses past w line number s.stands; nodes = s.nodes }
 
-loses_nodes : (w : WorldState) (line serial lines : ℕ) (b : Bool) → NodesOf w lines → NodesOf (if b then lost serial w else refused line no_packet w) lines
-loses_nodes w line serial lines true n = n
-loses_nodes w line serial lines false n = n
-
 pub loses_line : {past : List Moment} {lines : ℕ} (w : WorldState) (line serial : ℕ) → Sound past lines w → Sound past lines (lose_line line serial w)
-unfolding lose_line
-loses_line {past} {lines} w line serial s = record {
-  stands = loses past w line serial s.stands;
-  nodes = loses_nodes w line serial lines (is_in_flight serial w) s.nodes;
-}
+loses_line w line serial s = own_then w _ s.nodes (own_loses w line serial (own_sound s))
 
 injects_nodes : (w : WorldState) (line from lines : ℕ) (bytes : List ℕ) (to : Option ℕ) → NodesOf w lines → NodesOf (injected to line from bytes w) lines
 unfolding posted
@@ -73,57 +62,8 @@ first_flies (x ∷ xs) serial e = here x serial (let f : x ≡ serial = cc in f)
 
 module _ (targets : FittingLaw) (initiators : OwnFittingLaw) where
   -- ---- an initiator acts
-  own_asks : {past : List Moment} (w : WorldState) → Stands past w → (i weight : ℕ) → i < length w.initiators → (turn : Turn) → IsAsking (TargetOf w.generations.seen i) (initiator_at w i).layer turn.1.layer turn.0.packets → ArePlainSides turn.0.sides → AreSmall turn.0.packets → Lands past (with_initiator i turn.1 w) (handed_out (i + 1) weight turn.0 (with_initiator i turn.1 w))
-  own_asks w h i weight inside turn a plain small =
-      let node_is : i + 1 ≡ suc i = omega arith in
-      let old = initiator_at w i in
-      let v = with_initiator i turn.1 w in
-      let n = length-set w.initiators i turn.1 in
-      let v_stands = nodes_beside w h w.target (slice_set w.initiators i turn.1) n in
-      let v_there : i + 1 ≤ length v.initiators = omega (arith, n) in
-      let own : layers_of w (i + 1) ≡ bare old.layer = ap (λ x. layer_in w.target.layer w.initiators x) node_is in
-      let k : Knowing (TargetOf w.generations.seen i) v (i + 1) = record {
-        all = λ id q. record { node = 0; there = omega arith; id_is = ap (λ x. id_of (topology_at w.generations x) 0) node_is ∙ to_target w.generations.seen i id q };
-        aims = λ id q l. refl;
-      } in
-      own_lands w (handed_out (i + 1) weight turn.0 v) (i + 1) i turn.1 node_is inside (handed_alike (i + 1) weight turn.0 v)
-      (asks_out (TargetOf w.generations.seen i) v (i + 1) weight v_there k old.layer turn.1.layer own turn.0 plain small a v_stands)
-
-  module _ {past : List Moment} {lines : ℕ} (w : WorldState) (sound : Sound past lines w) (line i : ℕ) (action : Action) (inside : i < length w.initiators) (are_bytes : BytesAction action) (few : lines + 1 < 2 ^ 32) where
-    abbrev old_own : InitiatorState
-    old_own = initiator_at w i
-
-    abbrev acted_own : Option ℕ × Turn
-    acted_own = act_step action empty_outbox old_own
-
-    refused_action : (number : ℕ) → acted_own.0 ≡ Some number → Sound past (lines + 1) (acted_by (Some number, acted_own.1) line i action w)
-    refused_action number e =
-        let same : acted_own.1 ≡ (empty_outbox, old_own) = refusal_law.unchanged action empty_outbox old_own number e in
-        let back : slice_set w.initiators i acted_own.1.1 ≡ w.initiators =
-        ap (λ (t : Turn). slice_set w.initiators i t.1) same ∙ set-get_or w.initiators i (new_state 0 false) in
-        let before : Sound past (lines + 1) w = record { stands = sound.stands; nodes = later w lines sound.nodes } in
-        refuses_line (with_initiator i acted_own.1.1 w) line number (subst (λ (xs : List InitiatorState). Sound past (lines + 1) (record w { initiators = xs })) (sym back) before)
-
-    done_action : acted_own.0 ≡ None → Sound past (lines + 1) (acted_by (None, acted_own.1) line i action w)
-    done_action e =
-        let count = sound.nodes.own.counts i inside in
-        let d = (initiators (own_has w.generations.seen i) (own_has w.generations.seen i)).actions_fit action old_own (target_small w.generations.seen i) (sound.nodes.own.holds i inside) are_bytes (omega arith) e in
-        let turn = acted_own.1 in
-        let v = with_initiator i turn.1 w in
-        let acts = d.acts in
-        record {
-          stands = (own_asks w sound.stands i (weight_in action) inside turn d.asks d.plain d.small).stands;
-          nodes = nodes_alike v (handed_out (i + 1) (weight_in action) turn.0 v) (lines + 1) (own_asks w sound.stands i (weight_in action) inside turn d.asks d.plain d.small).alike
-              (with_own_holds w (lines + 1) i turn.1 inside d.holds (omega arith) (later w lines sound.nodes));
-        }
-
-    acts_by : (o : Option ℕ) → acted_own.0 ≡ o → Sound past (lines + 1) (acted_by (o, acted_own.1) line i action w)
-    acts_by None e = done_action e
-    acts_by (Some number) e = refused_action number e
-
-    acts_line : Sound past (lines + 1) (acted line i action w)
-    unfolding acted
-    acts_line = acts_by acted_own.0 refl
+  acts_line : {past : List Moment} {lines : ℕ} (w : WorldState) → Sound past lines w → (line i : ℕ) (action : Action) → i < length w.initiators → BytesAction action → lines + 1 < 2 ^ 32 → Sound past (lines + 1) (acted line i action w)
+  acts_line w sound line i action inside are_bytes few = own_then w _ sound.nodes (own_acts initiators w (own_sound sound) line i action inside are_bytes few)
 
   -- ---- a second passes, a unit gets a key
   ticks_line : {past : List Moment} {lines : ℕ} (w : WorldState) → Sound past lines w → Sound past lines (tick_line w)

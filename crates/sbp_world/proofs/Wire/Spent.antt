@@ -49,7 +49,7 @@ new_paid line n ready number i = record {
   rises = tt;
 }
 
-begins : (line : ℕ) (run : Run) → IsSpent (moments_behind line run []) 0 (beginning run).world
+pub begins : (line : ℕ) (run : Run) → IsSpent (moments_behind line run []) 0 (beginning run).world
 unfolding new_world
 begins line run =
     let n = run.initiators in

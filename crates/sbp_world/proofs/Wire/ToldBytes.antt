@@ -1,30 +1,14 @@
--- What the commands of a line told is bytes, as the line's own condition on it says.
-use Rattle.sbp_world.proofs.Words.Std.{AllByRecursion, arith, sym, subst}
-use Rattle.sbp_world.proofs.Words.Wire.{LabelParts, header_in, Finding, of_generation, of_grammar, of_label, of_response, of_again, of_request, Sent, found_sent, AreBytes, Event}
-use Rattle.sbp_world.proofs.Words.Target.{Which, Login, Outcome, Told, told_in, Purpose, which_in, desk_at, TellsAt, TellsIn, answer_in, Stage, TellsBy, Whole, agent_step, served_login, stage}
+-- What the target's commands of a line told is bytes, as the line's own condition on it says.
+use Rattle.sbp_world.proofs.Words.Std.{sym, subst}
+use Rattle.sbp_world.proofs.Words.Wire.{LabelParts, header_in, Finding, of_generation, of_grammar, of_label, of_response, of_again, of_request, Sent, found_sent, Event}
+use Rattle.sbp_world.proofs.Words.Target.{Which, Login, Told, Purpose, which_in, desk_at, TellsAt, TellsIn, answer_in, Stage, TellsBy, Whole, agent_step, served_login, stage}
 use Rattle.sbp_world.proofs.Words.Initiator.{Answer}
 use Rattle.sbp_world.proofs.Words.World.{MayAt, MayReceive, MayTell, MayTold, faults_after, judged_target, MayHappen, MayTellIn, MayIf, is_in_flight, may_repeat, MayAll, MayNext, after_all, lowest, Scene, begun, BytesTold}
-use Rattle.std.specs.Prelude.{◌≡◌, ◌<◌, ℕ, zero, suc, nat_eq, Bool, true, false, List, [], ◌∷◌, Option, Some, None}
+use Rattle.std.specs.Prelude.{◌≡◌, ℕ, nat_eq, Bool, true, false, List, [], ◌∷◌, Option, Some, None}
 use Rattle.sbp_journal.specs.declared.event.Event.TheVariants as events
 use Rattle.sbp_target.specs.declared.purpose.Purpose.TheVariants as purposes
 use Rattle.sbp_world.specs.Settling as settling
-
--- what each command of a line told
-abbrev pub AreTold : List (Option Told) → Type 0
-AreTold [] = Unit {0}
-AreTold (told ∷ before) = BytesTold told × AreTold before
-
-bytes_anywhere : (bytes : List ℕ) → AllByRecursion (λ byte. byte < 256) bytes → AreBytes bytes
-bytes_anywhere [] a k = omega arith
-bytes_anywhere (byte ∷ bytes) a zero = a.0
-bytes_anywhere (byte ∷ bytes) a (suc k) = bytes_anywhere bytes a.1 k
-
-none_fits : (told : Option Told) → told ≡ None → BytesTold told
-none_fits told e = subst BytesTold (sym e) tt
-
-run_fits : (ran : Option Outcome) (answer : List ℕ) → AllByRecursion (λ byte. byte < 256) answer → BytesTold (told_in ran answer)
-run_fits None answer a = tt
-run_fits (Some outcome) answer a = bytes_anywhere answer a
+use Rattle.sbp_world.proofs.Wire.CommandBytes.{AreTold, none_fits, run_fits}
 
 by_fits : (told : Option Told) (place : ℕ) (answer : Answer) (login : Option Login) (which : Option Which) (s : Stage) (before now : List ℕ) → TellsBy told place answer login which s before now → BytesTold told
 by_fits told place answer (Some login) (Some which) s before now t =

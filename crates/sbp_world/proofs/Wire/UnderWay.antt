@@ -18,7 +18,7 @@ use Rattle.sbp_world.proofs.Wire.Bus.{holds}
 use Rattle.sbp_world.proofs.Wire.Expires.{Aims, latest}
 use Rattle.sbp_world.proofs.Wire.Found.{id_known}
 use Rattle.sbp_world.proofs.Wire.Handles.{expired_generation}
-use Rattle.sbp_world.proofs.Wire.Received.{IsTarget}
+use Rattle.sbp_world.proofs.Wire.Arrivals.{IsTarget}
 
 -- ---- a label that waits
 record Waits (held : Held) : Type 0 where

@@ -15,7 +15,7 @@ use Rattle.sbp_world.proofs.Wire.Holding.{Sound, later}
 use Rattle.sbp_world.proofs.Wire.Repeats.{said_same}
 use Rattle.sbp_world.proofs.Wire.Sound.{line_goes, first_flies}
 use Rattle.sbp_world.proofs.Wire.Tells.{starts}
-use Rattle.sbp_world.proofs.Wire.ToldBytes.{AreTold}
+use Rattle.sbp_world.proofs.Wire.CommandBytes.{AreTold}
 use Rattle.sbp_world.proofs.Agents.Management.Firsts.{opened_office}
 use Rattle.sbp_world.proofs.Agents.Management.Hands.{carried, heard, own_turn}
 use Rattle.sbp_world.proofs.Agents.Management.Holding.{Holding, past_terms}
