@@ -1,4 +1,4 @@
-ghost use Rattle.std.specs.Prelude.{◌≡◌, ◌<◌, not, IfOk, IfErr};
+ghost use Rattle.std.specs.Prelude.{◌≡◌, ◌<◌, not, IfOk, IfErr, IfSome};
 
 use crate::fetcher::{FetchPhase, Fetcher};
 use crate::step::FETCHER;
@@ -32,7 +32,7 @@ impl Model for TaskAgent {
 impl TaskAgent {
     ghost use Rattle.command_agent.specs.Machine.{present_of};
     ghost use Rattle.command_agent.specs.Steps.{is_reset};
-    ghost use Rattle.unordered_agent.specs.Machine.{new_agent, state_in, is_busy, task_at};
+    ghost use Rattle.unordered_agent.specs.Machine.{new_agent, state_in, is_busy, lowest_free, task_at};
     ghost use Rattle.unordered_agent.specs.Steps.{point_step, doorbell_step, reset_all_step};
 
     /// An agent in RESET, with all the room that it will use.
@@ -65,6 +65,15 @@ impl TaskAgent {
                 .tasks
                 .agent(usize::from(place))
                 .is_under_way(Which::Main)
+    }
+
+    /// The lowest task place that is free: that of the ORB which the fetcher reads.
+    pub fn lowest_free(&self) -> Option<u8>
+        ensures place { result ≡ lowest_free self.now.tasks }
+        ensures below { IfSome result (λ place. place < 8) }
+    {
+        let place = self.tasks.lowest_free()?;
+        Some(place as u8)
     }
 
     /// The bytes of the write that a task place last asked for.

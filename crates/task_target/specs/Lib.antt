@@ -1,0 +1,10 @@
+pub mod Sending
+pub mod Giving
+pub mod Nodes
+pub mod Telling
+pub mod Following
+pub mod Replies
+pub mod Serving
+pub mod Receiving
+pub mod Targets
+pub mod Counting
