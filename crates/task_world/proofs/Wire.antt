@@ -1,0 +1,11 @@
+pub mod Seats
+pub mod Holding
+pub mod Delivered
+pub mod Expired
+pub mod Lines
+pub mod Runs
+pub mod Told
+pub mod Counts
+pub mod Brings
+pub mod Lined
+pub mod Keeping

@@ -1,0 +1,14 @@
+pub mod Seats
+pub mod Worlds
+pub mod Making
+pub mod Delivering
+pub mod Packets
+pub mod Settling
+pub mod Lines
+pub mod Runs
+pub mod Forms
+pub mod Media
+pub mod Written
+pub mod Seated
+pub mod Fitting
+pub mod Wire
