@@ -1,27 +1,17 @@
 use crate::calls::{Alone, call, media_of, run};
+use crate::cases::holds;
 use crate::scripts::{has_form, lines_of, script_of};
 use crate::texts::{COMMANDS, FAULTY, LISTS, LOGINS, PACKETS, USUAL_SESSION};
 use sbp_command::Status;
 use std::alloc::Global;
 use std::test::Fail;
 
-/// Whether a case holds: its script ends so, and writes what stands there.
-fn holds(alloc: Global, status: Status, case: &str) -> Result<bool, Fail> {
-    let (tried, rest) = case.split_once("\n").ok_or("case")?;
-    let (kind, _) = tried.split_once(": ").ok_or("case")?;
-    let (lines, form) = rest.split_once("\n").ok_or("case")?;
-    let script = script_of(alloc, lines)?;
-    let ended = run(alloc, script.as_str())?;
-    let told = lines_of(alloc, kind, ended.written.as_str())?;
-    Ok(ended.status == status && has_form(alloc, told.as_str(), form)?)
-}
-
 /// Scripts without a faulty line.
 #[test]
 fn scripts_run(rt: HostRuntime) -> Result<(), Fail> {
     for cases in [PACKETS, LISTS, LOGINS, COMMANDS, USUAL_SESSION] {
         for case in cases.split("=\n") {
-            assert!(rt; holds(rt.alloc(), Status::Done, case)?, "{case}");
+            assert!(rt; holds(rt.alloc(), "run", Status::Done, case)?, "{case}");
         }
     }
     Ok(())
@@ -31,7 +21,7 @@ fn scripts_run(rt: HostRuntime) -> Result<(), Fail> {
 #[test]
 fn faulty_lines_are_told(rt: HostRuntime) -> Result<(), Fail> {
     for case in FAULTY.split("=\n") {
-        assert!(rt; holds(rt.alloc(), Status::Script, case)?, "{case}");
+        assert!(rt; holds(rt.alloc(), "run", Status::Script, case)?, "{case}");
     }
     Ok(())
 }

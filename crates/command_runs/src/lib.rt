@@ -5,6 +5,8 @@
 #[cfg(test)]
 mod calls;
 #[cfg(test)]
+mod cases;
+#[cfg(test)]
 mod drill_tests;
 #[cfg(test)]
 mod example_tests;
@@ -22,6 +24,10 @@ mod queue_tests;
 mod queue_texts;
 #[cfg(test)]
 mod scripts;
+#[cfg(test)]
+mod task_tests;
+#[cfg(test)]
+mod task_texts;
 #[cfg(test)]
 mod texts;
 #[cfg(test)]

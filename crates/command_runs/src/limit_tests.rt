@@ -81,21 +81,20 @@ fn long_lines_and_scripts(rt: HostRuntime) -> Result<(), Fail> {
     Ok(())
 }
 
-/// Words that are served, and others that bring the usage line: those in no row of it, and `tasks`,
-/// which is not served.
+/// Words that are served, and others that bring the usage line.
 #[test]
 fn words_are_read(rt: HostRuntime) -> Result<(), Fail> {
     let alloc = rt.alloc();
     for (words, status, written) in [
         ("decode", Status::Script, "script 1 9\n"),
         ("rom", Status::Script, "script 1 9\n"),
+        ("tasks -", Status::Words, USAGE),
         ("queue", Status::Script, "begin 1 ready\nscript 2 11\n"),
         ("walk", Status::Words, USAGE),
         ("", Status::Words, USAGE),
         ("run run", Status::Words, USAGE),
         ("Run", Status::Words, USAGE),
         ("decode -", Status::Words, USAGE),
-        ("tasks", Status::Words, USAGE),
         ("drill 01 5", Status::Words, USAGE),
         ("drill 1 0", Status::Words, USAGE),
         ("drill 1 10001", Status::Words, USAGE),

@@ -1,4 +1,5 @@
 mod Wires
+mod Scripts
 mod Endings
 mod Drilling
 mod Listings
@@ -10,3 +11,8 @@ mod QueueScripts
 mod QueueFits
 mod QueueRunning
 mod QueueEndings
+mod TaskScripts
+mod TaskFits
+mod TaskRunning
+mod TaskMedia
+mod TaskEndings

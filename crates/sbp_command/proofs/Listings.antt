@@ -19,7 +19,8 @@ use Rattle.line_text.specs.Digits.{spelled}
 use Rattle.packet_listing.specs.Listing.{onto_listing, listing_from, line_listing, of_digits, listing}
 use Rattle.packet_listing.specs.Meaning.{list_meaning}
 use Rattle.packet_listing.proofs.Listings.{behind, listing-next}
-use Rattle.sbp_command.specs.Headline.{ending, status_of, whole_text, KeepsMedia, TornListing, ListingEnds}
+use Rattle.sbp_command.specs.Scripts.{ending}
+use Rattle.sbp_command.specs.Headline.{status_of, whole_text, KeepsMedia, TornListing, ListingEnds}
 
 refused_cases : (many long : Bool) (read : Result (List ℕ) ℕ) (fault : ℕ)
     → RefusedFor (if many then Some too_many else if long then Some too_long else None) ((if many then Err too_many else if long then Err too_long else read) ≡ Err fault) fault

@@ -18,7 +18,7 @@ notes_back (e ∷ before) =
     reverse-append (notes_in before) (reverse e.notes)
     ∙ (ap (λ ns. ns ++ reverse (notes_in before)) (reverse-reverse e.notes) ∙ ap (λ ns. e.notes ++ ns) (notes_back before))
 
-journal_back : (run : Run) → reverse (journal run) ≡ notes_behind run.entries ++ notes_begin run.initiators run.ready ∷ []
+pub journal_back : (run : Run) → reverse (journal run) ≡ notes_behind run.entries ++ notes_begin run.initiators run.ready ∷ []
 journal_back run =
     reverse-append (notes_begin run.initiators run.ready ∷ []) (notes_in run.entries)
     ∙ ap (λ ns. ns ++ notes_begin run.initiators run.ready ∷ []) (notes_back run.entries)

@@ -22,11 +22,12 @@ use Rattle.retry_queue.specs.Scripts.{Served, journal, notes_in, said_in}
 use Rattle.retry_queue.specs.Texts.{text_of}
 use Rattle.retry_queue.proofs.StandingRuns.{stands_for_runs}
 use Rattle.script_runner.specs.Events.{events_of}
-use Rattle.sbp_command.specs.Headline.{ending, status_of}
+use Rattle.sbp_command.specs.Headline.{status_of}
 use Rattle.sbp_command.specs.QueueEnds.{HasQueueRun, QueueEnds, RunsQueue, TornQueue}
 use Rattle.sbp_command.specs.QueueLines.{begun_by, of_lines, queue_script}
 use Rattle.sbp_command.specs.QueueRunner.{InRun, RanSo, Stands, queue_meaning}
-use Rattle.sbp_command.proofs.Endings.{front_events}
+use Rattle.sbp_command.specs.Scripts.{ending}
+use Rattle.sbp_command.proofs.Scripts.{front_events}
 use Rattle.sbp_command.proofs.QueueScripts.{refused-says, said_few, served-fault, served-next}
 use Rattle.sbp_command.proofs.Wires.{has_run}
 

@@ -1,5 +1,5 @@
 -- What the top call promises, by its status.
-use Rattle.std.specs.Prelude.{◌≡◌, ℕ, ◌⊎◌, false, List, [], ◌∷◌, ◌++◌, take, reverse, codes, Option, Some, None, IfSome, Result, Ok, Err}
+use Rattle.std.specs.Prelude.{◌≡◌, ℕ, false, List, [], ◌∷◌, ◌++◌, take, codes, Option, Some, None, IfSome, Result, Ok, Err}
 use Rattle.std.specs.Io.KnownBytes.{Appends, Consumes, IsAtEnd}
 use Rattle.sbp_base.specs.Faults.{Rose}
 use Rattle.line_session.specs.Lines.{NoFeed, IsWhole, is_surely_long}
@@ -8,85 +8,21 @@ use Rattle.line_session.specs.Meaning.{fault_text}
 use Rattle.line_session.specs.Ends.{NoFault}
 use Rattle.line_session.specs.declared.status.Status.{Status as StreamStatus}
 use Rattle.line_session.specs.declared.status.Status.TheVariants as stream_statuses
-use Rattle.rbc_disk.specs.Held.{Held}
-use Rattle.sbp_journal.specs.Text.{text_of}
-use Rattle.sbp_journal.specs.declared.event.Event.{Event}
-use Rattle.sbp_journal.specs.declared.note.Note.{Note}
-use Rattle.script_text.specs.Script.{Script, script}
+use Rattle.script_text.specs.Script.{script}
 use Rattle.packet_listing.specs.Listing.{Listing, listing}
 use Rattle.rom_listing.specs.RomListing.{rom_listing, rom_quads}
-use Rattle.media_laws.specs.Media.{media_after}
-use Rattle.sbp_target.specs.Faults.{NoneFell}
-use Rattle.script_runner.specs.Events.{MayLeave}
 use Rattle.sbp_command.specs.Machine.{Runs}
+use Rattle.sbp_command.specs.Scripts.{ScriptCommand, ScriptEnds, ending}
 use Rattle.sbp_command.specs.declared.status.Status.{Status}
 use Rattle.sbp_command.specs.declared.status.Status.TheVariants as statuses
 
--- what stands behind the journal: the first faulty line of a script
-abbrev pub ending : Option (ℕ × ℕ) → List ℕ
-ending None = []
-ending (Some (number, fault)) = fault_text number fault
-
--- The whole input, where the source tells it, was run up to its first faulty line; the sink gained the text of what the machine tells
--- over exactly its events, and that of the fault, and the media are as the machine leaves them.
-pub record RanScript (before now : Outside) (fault : Option (ℕ × ℕ)) : Type 0 where
-  pub input : List ℕ
-  pub notes : List Note
-  pub told : IfSome before.left (λ bytes. bytes ≡ input)
-  pub fault_is : (script input).fault ≡ fault
-  pub ran : Runs before.media (script input).events notes now.media
-  pub written : Appends before.written now.written (text_of notes ++ ending fault)
-  pub no_fault : NoFault before now
-
--- The whole lines that were read were run, and the sink gained the text of what the machine tells over them; a line without its line
--- feed, which may yet be short enough, was not run.
-pub record RanLines (before now : Outside) : Type 0 where
-  pub whole : List ℕ
-  pub rest : List ℕ
-  pub notes : List Note
-  pub consumed : Consumes before.left now.left (whole ++ rest)
-  pub is_whole : IsWhole whole
-  pub no_feed : NoFeed rest
-  pub short : is_surely_long rest ≡ false
-  pub fault_is : (script whole).fault ≡ None
-  pub ran : Runs before.media (script whole).events notes now.media
-  pub written : Appends before.written now.written (text_of notes)
-
--- The text of some notes, and, where they are of all events, that of the script's fault.
-abbrev pub MayWrite : Script → List (ℕ × Event) → List Note → List ℕ → Type 0
-MayWrite s happened notes output =
-    (output ≡ text_of notes) ⊎ ((happened ≡ s.events) × (output ≡ text_of notes ++ ending s.fault))
-
--- A front of such a text was written, for what the machine does over the first events of the input; so it leaves the media.
-pub record Torn (before now : Outside) (media : Held) : Type 0 where
-  pub input : List ℕ
-  pub happened : List (ℕ × Event)
-  pub notes : List Note
-  pub count : ℕ
-  pub output : List ℕ
-  pub len : ℕ
-  pub told : IfSome before.left (λ bytes. bytes ≡ input)
-  pub first : happened ≡ take count (script input).events
-  pub ran : Runs before.media happened notes media
-  pub may_write : MayWrite (script input) happened notes output
-  pub written : Appends before.written now.written (take len output)
-
--- So it was, and then memory was wanting in the next line: there are as many media, no count of faults fell, and so each rose at least by the
--- failing runs that the notes tell.
-pub record TornAndLeft (before now : Outside) : Type 0 where
-  pub media : Held
-  pub torn : Torn before now media
-  pub left : MayLeave media now.media
-  pub within : NoneFell (media_after (reverse torn.notes) before.media).faults now.media.faults
+-- what `run` reads, and what it does
+abbrev pub run_command : ScriptCommand
+run_command = record { script = script; does = Runs }
 
 -- the clause of `run` by status
 abbrev pub RunEnds : Status → Outside → Outside → Type 0
-RunEnds statuses.Done before now = IsAtEnd now.left × RanScript before now None
-RunEnds statuses.Words before now = ⊥
-RunEnds statuses.Script before now = (fault : ℕ × ℕ) × RanScript before now (Some fault)
-RunEnds statuses.ReadFault before now = Rose before.reads now.reads × RanLines before now
-RunEnds statuses.WriteFault before now = Rose before.writes now.writes × Torn before now now.media
-RunEnds statuses.NoMemory before now = NoFault before now × TornAndLeft before now
+RunEnds status before now = ScriptEnds run_command status before now
 
 -- The media and their counts are as they were.
 abbrev pub KeepsMedia : Outside → Outside → Type 0

@@ -16,9 +16,9 @@ use Rattle.retry_queue.specs.Scripts.{Served, journal, notes_in, said_in}
 use Rattle.retry_queue.specs.Texts.{text_of}
 use Rattle.script_runner.specs.Events as machine
 use Rattle.script_runner.specs.Events.{MayLeave, events_of}
-use Rattle.sbp_command.specs.Headline.{ending}
 use Rattle.sbp_command.specs.Machine.{HasRun}
 use Rattle.sbp_command.specs.QueueLines.{QueueScript, queue_script}
+use Rattle.sbp_command.specs.Scripts.{ending}
 use Rattle.sbp_command.specs.declared.status.Status.{Status}
 use Rattle.sbp_command.specs.declared.status.Status.TheVariants as statuses
 

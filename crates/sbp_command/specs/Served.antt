@@ -5,6 +5,7 @@ use Rattle.drill_text.specs.Words.{IsDrill}
 use Rattle.sbp_command.specs.Drill.{DrillEnds}
 use Rattle.sbp_command.specs.Headline.{IsDecode, IsRom, IsRun, ListingEnds, RomEnds, RunEnds, UsageEnds}
 use Rattle.sbp_command.specs.QueueEnds.{IsQueue, QueueEnds}
+use Rattle.sbp_command.specs.TaskEnds.{IsTasks, TaskEnds}
 use Rattle.sbp_command.specs.declared.status.Status.{Status}
 
 -- Each row of words brings what it is to bring, and other words the usage line.
@@ -13,5 +14,6 @@ pub record Serves (words : List (List ℕ)) (status : Status) (before now : Outs
   pub drill : (seed count : ℕ) → IsDrill words seed count → DrillEnds seed count status before now
   pub decode : IsDecode words → ListingEnds status before now
   pub rom : IsRom words → RomEnds status before now
+  pub tasks : IsTasks words → TaskEnds status before now
   pub queue : IsQueue words → QueueEnds status before now
-  pub others : ¬ IsRun words → ((seed count : ℕ) → ¬ IsDrill words seed count) → ¬ IsDecode words → ¬ IsRom words → ¬ IsQueue words → UsageEnds status before now
+  pub others : ¬ IsRun words → ((seed count : ℕ) → ¬ IsDrill words seed count) → ¬ IsDecode words → ¬ IsRom words → ¬ IsTasks words → ¬ IsQueue words → UsageEnds status before now

@@ -4,6 +4,7 @@
 mod drill;
 mod queue;
 mod status;
+mod tasks;
 mod top;
 
 pub use rom_listing::rom_tree_is_listed;

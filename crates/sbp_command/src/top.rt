@@ -5,10 +5,12 @@ ghost use Rattle.line_session.specs.Outside.{outside};
 ghost use Rattle.sbp_command.specs.Headline.{status_of, RunEnds, ListingEnds, RomEnds, UsageEnds};
 ghost use Rattle.sbp_command.specs.QueueEnds.{QueueEnds};
 ghost use Rattle.sbp_command.specs.Served.{Serves};
+ghost use Rattle.sbp_command.specs.TaskEnds.{TaskEnds};
 
 use crate::drill::run_drill;
 use crate::queue::serve_queue;
 use crate::status::Status;
+use crate::tasks::serve_tasks;
 use drill_text::drill_words;
 use line_session::{Status as LineStatus, serve_lines, write_all};
 use packet_listing::PacketLister;
@@ -115,9 +117,24 @@ fn run_queue<S: Source, K: Sink>(
     status_of(serve_queue(alloc, media, source, sink))
 }
 
+/// Reads a script and runs its lines over the unordered unit, which has the first medium.
+fn run_tasks<S: Source, K: Sink>(
+    alloc: Global,
+    media: &mut Vec<Box<dyn Medium>>,
+    source: &mut S,
+    sink: &mut K,
+) -> Status
+    requires some { 1 ≤ length media.old.items }
+    requires few { length media.old.items ≤ 4 }
+    ensures { TaskEnds result (outside (S.left source.old) (S.faults source.old) (K.written sink.old) (K.faults sink.old) (map disk media.old.items) (map media_faults media.old.items)) (outside (S.left source.new) (S.faults source.new) (K.written sink.new) (K.faults sink.new) (map disk media.new.items) (map media_faults media.new.items)) }
+{
+    status_of(serve_tasks(alloc, media, source, sink))
+}
+
 /// Does what the words say over one to four media: `run` reads a script from `source`, runs it, and
 /// writes the journal to `sink`; `decode` reads packets in hexadecimal lines and writes their listing;
 /// `rom` reads the quadlets of one configuration ROM in hexadecimal lines and writes its listing;
+/// `tasks` reads a script of the unordered unit, runs it over the first medium, and writes the journal;
 /// `queue` reads a script of a queue of writes, runs it, and writes the queue's journal;
 /// `drill` reads nothing, runs a script that is drawn from a seed and writes six lines on it. The words
 /// are read as they are.
@@ -138,6 +155,8 @@ pub fn sbp2<S: Source, K: Sink>(
         list_packets(alloc, media, source, sink)
     } else if is_alone(words, "rom") {
         list_rom(alloc, media, source, sink)
+    } else if is_alone(words, "tasks") {
+        run_tasks(alloc, media, source, sink)
     } else if is_alone(words, "queue") {
         run_queue(alloc, media, source, sink)
     } else if let Some(drill) = drill_words(words) {

@@ -80,7 +80,7 @@ can_go initiators units ready media some u one few = record {
 
 -- ---- one more event
 
-entry_text : (xs ys : List Note) → text_of xs ++ text_of ys ≡ text_of (xs ++ ys)
+pub entry_text : (xs ys : List Note) → text_of xs ++ text_of ys ≡ text_of (xs ++ ys)
 entry_text xs ys = sym (flat_map-append note_text xs ys)
 
 -- a world goes on
