@@ -2,7 +2,7 @@
 # What a run over the bus costs, in instructions as valgrind counts them: a script of 10,000 lines, the drills of
 # 1,000 and 10,000 lines with their ratio, and a line at the beginning and at the end of a long script, beside few
 # packets in flight and beside 60,000 (a script has at most 65,536 lines; bench/store.sh goes to 100,000), which are
-# requests, or responses of one transaction. A queue of 3,000 and of 10,000 writes, and a pump and its status behind
+# requests, or responses of one transaction. The same 10,000 lines over the unordered unit (`tasks`). A queue of 3,000 and of 10,000 writes, and a pump and its status behind
 # few submissions and behind 60,000. And the peak of the heap, by massif, of five nodes with WRITEs of 16 KiB that wait.
 # First build the program: cd crates/sbp2 && rt run -- run < stdin
 cd "$(dirname "$0")/.." || exit 1
@@ -57,6 +57,9 @@ writes() {
 all=$(appends 10000 | count run)
 notes=$(wc -l < "$work/out")
 awk -v a="$all" -v n="$notes" 'BEGIN { printf "10,000 lines: %d instructions, %d notes, %d a note\n", a, n, a / n }'
+
+tasks=$(appends 10000 | count tasks)
+awk -v a="$all" -v b="$tasks" 'BEGIN { printf "10,000 lines over the unordered unit: %d instructions, %.2f of those of run\n", b, b / a }'
 
 few=$(count drill 1 1000 < /dev/null) many=$(count drill 1 10000 < /dev/null)
 awk -v a="$few" -v b="$many" 'BEGIN { printf "drills of 1,000 and 10,000 commands: %d and %d instructions, ratio %.2f\n", a, b, b / a }'

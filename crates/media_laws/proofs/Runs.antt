@@ -83,7 +83,7 @@ notes_said : (told : List Note) (past : List Moment) → notes_in (map said told
 notes_said [] past = refl
 notes_said (note ∷ told) past = ap (λ ns. note ∷ ns) (notes_said told past)
 
-history_notes : (line : ℕ) (run : Run) (entries : List Entry) → notes_in (moments_behind line run entries) ≡ notes_behind entries ++ notes_begin run.initiators run.ready ∷ []
+pub history_notes : (line : ℕ) (run : Run) (entries : List Entry) → notes_in (moments_behind line run entries) ≡ notes_behind entries ++ notes_begin run.initiators run.ready ∷ []
 history_notes line run [] = refl
 history_notes line run (e ∷ before) =
     notes_said e.notes (asked e.line e.event ∷ moments_behind line run before)
