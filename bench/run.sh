@@ -2,7 +2,8 @@
 # What a run over the bus costs, in instructions as valgrind counts them: a script of 10,000 lines, the drills of
 # 1,000 and 10,000 lines with their ratio, and a line at the beginning and at the end of a long script, beside few
 # packets in flight and beside 60,000 (a script has at most 65,536 lines; bench/store.sh goes to 100,000), which are
-# requests, or responses of one transaction. The same 10,000 lines over the unordered unit (`tasks`). A queue of 3,000 and of 10,000 writes, and a pump and its status behind
+# requests, or responses of one transaction. The same 10,000 lines over the unordered unit (`tasks`). Transfers of 16 blocks, without segments and with 64,
+# and WRITEs of 16 KiB with bus resets. A queue of 3,000 and of 10,000 writes, and a pump and its status behind
 # few submissions and behind 60,000. And the peak of the heap, by massif, of five nodes with WRITEs of 16 KiB that wait.
 # First build the program: cd crates/sbp2 && rt run -- run < stdin
 cd "$(dirname "$0")/.." || exit 1
@@ -54,6 +55,33 @@ writes() {
     awk 'BEGIN { for (i = 0; i < 32; i++) for (k = 0; k < 4; k++) print "append " k " write 0 A5*16384" }'
 }
 
+# so many equal lengths, as the segments of a page table
+segments() {
+    awk -v n="$1" -v size="$2" 'BEGIN { printf " seg "; for (i = 1; i <= n; i++) printf "%s%d", (i > 1 ? "," : ""), size }'
+}
+
+# 2,000 WRITEs and READs of 16 blocks by turns, with these segments, and a settle behind each sixteenth
+transfers() {
+    echo "begin 1 ready"
+    awk -v segments="$1" 'BEGIN {
+        for (i = 1; i <= 2000; i++) {
+            print "append 0 " (i % 2 ? "write " i % 4 * 16 " A5*4096+5A*4096" : "read " i % 4 * 16 " 16") segments
+            if (i % 16 == 0) print "settle"
+        }
+    }'
+}
+
+# 3,000 WRITEs of 16 KiB in 64 segments, of which 32 wait at a time until a bus reset
+resets() {
+    echo "begin 1 ready"
+    awk -v segments="$(segments 64 256)" 'BEGIN {
+        for (i = 1; i <= 3000; i++) {
+            print "append 0 write 0 A5*16384" segments
+            if (i % 32 == 0) print "reset 0 1\nsee t\nsee 0\nreconnect 0\nsettle"
+        }
+    }'
+}
+
 all=$(appends 10000 | count run)
 notes=$(wc -l < "$work/out")
 awk -v a="$all" -v n="$notes" 'BEGIN { printf "10,000 lines: %d instructions, %d notes, %d a note\n", a, n, a / n }'
@@ -80,6 +108,9 @@ pair "a response of one transaction" FFC00120FFC1000000000000
 for n in 3000 10000; do
     printf 'a queue of %s writes: %s instructions\n' "$n" "$(queue "$n" | count queue)"
 done
+printf '2,000 transfers of 16 blocks: %s instructions\n' "$(transfers "" | count run)"
+printf '2,000 transfers of 16 blocks in 64 segments: %s instructions\n' "$(transfers "$(segments 64 128)" | count run)"
+printf '3,000 WRITEs of 16 KiB in 64 segments, with resets: %s instructions\n' "$(resets | count run)"
 few=$(($(pumps 1600 1600 | count queue) - $(pumps 1600 800 | count queue)))
 many=$(($(pumps 60000 1600 | count queue) - $(pumps 60000 800 | count queue)))
 awk -v a="$few" -v b="$many" 'BEGIN { printf "a pump and its status: %d instructions behind 1,600 submissions, %d behind 60,000, ratio %.2f\n", a / 800, b / 800, b / a }'

@@ -28,6 +28,7 @@ impl Flights {
     /// A serial that was in flight, up to the last one, is in flight no more. What is above the lowest
     /// serial is looked at only once, as that only rises.
     #[tactic(auto, using(crate::proofs::Airborne::next_least, crate::proofs::Airborne::same_least))]
+    #[inline(always)]
     pub(crate) fn land(&mut self, packets: &Packets, serial: u64, last: u64)
         requires count { 0 < self.old.count }
         ensures lowest { (f : ℕ → Option Kept) → Landed serial f (holds packets.now) → NoneAbove last f → Least f self.old.lowest → Least (holds packets.now) self.new.lowest }

@@ -84,6 +84,7 @@ impl Bags {
 
 /// Adds a key to a bag.
 #[tactic(auto, using(crate::proofs::Bagged::added))]
+#[inline(always)]
 fn add_to(bag: &mut SmallVec<usize, 3>, key: usize, spots: &mut Vec<usize>) -> Result<(), NoMemory>
     ensures added { OnOk result ((k : ℕ) → count_of k bag.new.items ≡ one_if (key == k) + count_of k bag.old.items) }
     ensures failed { OnErr result ((k : ℕ) → count_of k bag.new.items ≡ count_of k bag.old.items) }
@@ -126,6 +127,7 @@ fn spot_of(bag: &[usize], key: usize, spots: &Vec<usize>) -> Option<usize>
 }
 
 /// Notes the spot of a key.
+#[inline(always)]
 fn note(spots: &mut Vec<usize>, key: usize, spot: usize) -> Result<(), NoMemory>
     ensures { OnOk result (slice_index_or spots.new.items key 0 ≡ spot) }
 {

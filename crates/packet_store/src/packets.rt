@@ -58,6 +58,7 @@ impl Packets {
     }
 
     /// The lowest serial in flight above one, up to the last one.
+    #[inline(always)]
     pub(crate) fn next_flying(&self, serial: u64, last: u64) -> Option<u64>
         ensures found { IfSome result (λ s. IsNext (holds self.now) serial s) }
         ensures none { IfNone result ((q : ℕ) → serial < q → q ≤ last → in_air (holds self.now q) ≡ false) }

@@ -64,6 +64,7 @@ impl Shelf {
     }
 
     /// The packet of a serial.
+    #[inline(always)]
     pub(crate) fn get(&self, serial: u64) -> Option<&Kept>
         ensures { option_copied result ≡ found serial self.now }
     {
@@ -161,6 +162,7 @@ impl Shelf {
 }
 
 /// Sets bytes aside, where they are among the first sixteen.
+#[inline(always)]
 fn set_aside(spares: &mut Vec<Bytes>, bytes: Bytes)
     ensures { length spares.old.items ≤ 16 → length spares.new.items ≤ 16 }
 {

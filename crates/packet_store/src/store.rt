@@ -71,6 +71,7 @@ impl Store {
     }
 
     /// The packet of a serial, in flight or delivered among the last 1,024 serials.
+    #[inline(always)]
     pub fn get(&self, serial: u64) -> Option<&Sent>
         ensures { option_copied result ≡ found_sent serial self.now.kept }
     {

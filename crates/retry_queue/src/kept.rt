@@ -97,7 +97,8 @@ impl Kept {
         }
     }
 
-    /// What a note adds, in a line that asks for this operation, if for one.
+    /// What a note adds, in a line that asks for this operation, if for one. Most notes add nothing.
+    #[inline(always)]
     pub(crate) fn learned(self, asked: Option<Operation>, note: &Note) -> Result<Kept, NoMemory>
         ensures { IfOk result (λ kept. kept_of kept ≡ spec.learned asked note.now (kept_of self)) }
     {
@@ -123,6 +124,7 @@ impl Kept {
     }
 
     /// The submission that a note gives its status.
+    #[inline(always)]
     pub(crate) fn finished(self, note: &Note) -> Result<Option<Finished>, NoMemory>
         ensures { IfOk result (λ finished. finished ≡ spec.finished note.now (kept_of self)) }
     {

@@ -10,7 +10,7 @@ use crate::note::{LastLine, QueueNotes};
 use line_text::Room;
 use orb_layout::StatusKind;
 use sbp_base::{Bytes, NoMemory};
-use sbp_journal::{Note, Operation, append_note, push_canonical, push_status};
+use sbp_journal::{Note, Operation, make_room, push_canonical, push_status, put_line};
 use std::alloc::Global;
 
 /// Adds the lines of the notes of a queue's last line, each with its line feed, in the order in which
@@ -46,22 +46,43 @@ fn append_told(
     requires { AllByRecursion journal_form.HasForm notes.now }
     ensures { OnOk result (out.new ≡ out.old ++ text_of (reverse (told asked (reverse notes.now) (kept_of before)))) }
 {
+    let mut room = Room::new();
+    put_told(alloc, asked, before, notes, out, &mut room)?;
+    out.extend_from_slice(room.as_slice())
+}
+
+/// Adds the same lines to bytes, the last of which wait in a room.
+fn put_told(
+    alloc: Global,
+    asked: Option<Operation>,
+    before: Kept,
+    notes: &[Note],
+    out: &mut Bytes,
+    room: &mut Room,
+) -> Result<(), NoMemory>
+    requires { AllByRecursion journal_form.HasForm notes.now }
+    ensures { OnOk result (out.new ++ room.new ≡ out.old ++ room.old ++ text_of (reverse (told asked (reverse notes.now) (kept_of before)))) }
+{
     let mut kept = before;
     for note in notes {
-        append_note(alloc, note, out)?;
-        append_finished(kept.finished(note)?, out)?;
+        put_line(alloc, note, out, room)?;
+        put_finished(kept.finished(note)?, out, room)?;
         kept = kept.learned(asked, note)?;
     }
     Ok(())
 }
 
 /// Adds the line of a submission that has its status, if there is one.
-fn append_finished(finished: Option<Finished>, out: &mut Bytes) -> Result<(), NoMemory>
+fn put_finished(
+    finished: Option<Finished>,
+    out: &mut Bytes,
+    room: &mut Room,
+) -> Result<(), NoMemory>
     requires { IfSome finished (λ f. IsStatus f.status) }
-    ensures { OnOk result (out.new ≡ out.old ++ text_of (written finished)) }
+    ensures { OnOk result (out.new ++ room.new ≡ out.old ++ room.old ++ text_of (written finished)) }
 {
     match finished {
-        Some(Finished { number, status }) => append_written(number, status, out),
+        Some(Finished { number, status }) => put_written(number, status, out, room),
         None => Ok(()),
     }
 }
@@ -88,14 +109,19 @@ fn append_submit(
 
 /// Adds `written Q STATUS`.
 #[tactic(auto, using(crate::proofs::Texts::written_line))]
-fn append_written(number: u32, status: StatusKind, out: &mut Bytes) -> Result<(), NoMemory>
+fn put_written(
+    number: u32,
+    status: StatusKind,
+    out: &mut Bytes,
+    room: &mut Room,
+) -> Result<(), NoMemory>
     requires { IsStatus status }
-    ensures { OnOk result (out.new ≡ out.old ++ line_text (codes "written") (written_fields number status)) }
+    ensures { OnOk result (out.new ++ room.new ≡ out.old ++ room.old ++ line_text (codes "written") (written_fields number status)) }
 {
-    let mut room = Room::new();
+    make_room(out, room, 64)?;
     room.push(b"written");
     room.push_number(u64::from(number));
-    push_status(&mut room, status);
+    push_status(room, status);
     room.push_byte(b'\n');
-    out.extend_from_slice(room.as_slice())
+    Ok(())
 }

@@ -175,3 +175,14 @@ pub last_turn : (bytes text : List ℕ) (start at : ℕ) → at ≤ length bytes
 last_turn bytes text start at within past =
     let end : at ≡ length bytes = omega arith in
     rw (drop_all at bytes past, end) (with_pieces-end text (take (length bytes - start) (drop start bytes)))
+
+-- bytes that are one long run
+pub one_run_text : (bytes : List ℕ) (count : ℕ) → 0 < length bytes → count ≡ front (get_or bytes 0 0) bytes → count ≡ length bytes → 4 ≤ count → canonical bytes ≡ piece_text (repeated (get_or bytes 0 0) count)
+one_run_text bytes count some e whole long =
+    let text = piece_text (repeated (get_or bytes 0 0) count) in
+    let behind : 0 + count ≡ count = omega arith in
+    let zero : length bytes - count ≡ 0 = omega arith in
+    canonical-pieces bytes some
+    ∙ subst (λ n. completed bytes [] 0 0 ≡ completed bytes text n n) behind (long_turn bytes [] 0 0 count some (e ∙ sym (ap (front (get_or bytes 0 0)) (tail_is bytes 0))) long)
+    ∙ last_turn bytes text count count (omega arith) (omega arith)
+    ∙ ap (λ n. with_plain text (take n (drop count bytes))) zero

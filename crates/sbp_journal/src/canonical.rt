@@ -1,9 +1,10 @@
-ghost use Rattle.std.specs.Prelude.{◌≡◌, ℕ, ◌≤◌, ◌==◌, length, take, codes, IsTrue, IfOk, OnOk, string_bytes};
+ghost use Rattle.std.specs.Prelude.{◌≡◌, ℕ, ◌<◌, ◌≤◌, ◌==◌, ◌++◌, List, length, take, IsTrue, IfOk, IfSome, OnOk};
 ghost use Rattle.std.specs.List.{list_all, prefix_len};
 ghost use Rattle.line_text.specs.Canonical.{canonical, piece_text, repeated};
 ghost use Rattle.sbp_journal.specs.Pieces.{with_piece, with_plain};
 
-use sbp_base::NoMemory;
+use line_text::{push_decimal, push_hexadecimal};
+use sbp_base::{Bytes, NoMemory};
 use std::alloc::Global;
 
 /// The least length of a run that is told by its length.
@@ -12,28 +13,41 @@ const LONG: usize = 4;
 /// How many equal bytes are counted in one step.
 const BLOCK: usize = 64;
 
-/// Bytes in the canonical form: digits, with `HH*N` for N equal bytes, and `-` for no bytes.
-pub fn canonical_text(alloc: Global, bytes: &[u8]) -> Result<String, NoMemory>
-    ensures { IfOk result (λ text. string_bytes text ≡ canonical bytes.now) }
+/// Bytes in the canonical form: digits, with `HH*N` for N equal bytes. There is one byte at least.
+pub(crate) fn canonical_text(alloc: Global, bytes: &[u8]) -> Result<Bytes, NoMemory>
+    requires { 0 < length bytes.now }
+    ensures { IfOk result (λ text. text ≡ canonical bytes.now) }
 {
-    if bytes.is_empty() {
-        return Ok(format!(in alloc; "-")?);
-    }
-    let mut text = String::new(alloc);
+    let mut text = Bytes::new(alloc);
     let mut start = 0;
     let mut at = 0;
     while at < bytes.len() {
         let byte = bytes[at];
         let count = run_length(byte, &bytes[at..]);
         if LONG <= count {
-            push_plain(alloc, &mut text, &bytes[start..at])?;
-            push_repeated(alloc, &mut text, byte, count)?;
+            push_plain(&mut text, &bytes[start..at])?;
+            push_repeated(&mut text, byte, count)?;
             start = at + count;
         }
         at += count;
     }
-    push_plain(alloc, &mut text, &bytes[start..])?;
+    push_plain(&mut text, &bytes[start..])?;
     Ok(text)
+}
+
+/// The byte and the length of bytes that are all equal, where they are told so.
+#[tactic(auto, using(crate::proofs::Runs::one_run_text))]
+pub(crate) fn one_run(bytes: &[u8]) -> Option<(u8, usize)>
+    requires { 0 < length bytes.now }
+    ensures { IfSome result (λ run. canonical bytes.now ≡ piece_text (repeated run.0 run.1)) }
+{
+    let byte = bytes[0];
+    let count = run_length(byte, bytes);
+    if count == bytes.len() && LONG <= count {
+        Some((byte, count))
+    } else {
+        None
+    }
 }
 
 /// How many bytes at the front equal `byte`. A block of such bytes is counted in one step.
@@ -75,32 +89,32 @@ fn count_front(byte: u8, bytes: &[u8]) -> usize
 }
 
 /// Adds bytes as digits, where there are any.
-fn push_plain(alloc: Global, text: &mut String, bytes: &[u8]) -> Result<(), NoMemory>
-    ensures { OnOk result (string_bytes text.new ≡ with_plain (string_bytes text.old) bytes.now) }
+fn push_plain(text: &mut Bytes, bytes: &[u8]) -> Result<(), NoMemory>
+    ensures { OnOk result (text.new ≡ with_plain text.old bytes.now) }
 {
     if bytes.is_empty() {
         return Ok(());
     }
-    let digits = hex::encode_upper(alloc, bytes)?;
-    push_piece(text, &digits)
+    push_plus(text)?;
+    push_hexadecimal(text, bytes)
 }
 
 /// Adds a byte and how often it stands.
-fn push_repeated(alloc: Global, text: &mut String, byte: u8, count: usize) -> Result<(), NoMemory>
-    ensures { OnOk result (string_bytes text.new ≡ with_piece (string_bytes text.old) (piece_text (repeated byte count))) }
+fn push_repeated(text: &mut Bytes, byte: u8, count: usize) -> Result<(), NoMemory>
+    ensures { OnOk result (text.new ≡ with_piece text.old (piece_text (repeated byte count))) }
 {
-    let digits = hex::encode_upper(alloc, [byte])?;
-    let piece = format!(in alloc; "{digits}*{count}")?;
-    push_piece(text, &piece)
+    push_plus(text)?;
+    push_hexadecimal(text, &[byte])?;
+    text.push(b'*')?;
+    push_decimal(text, count as u64)
 }
 
-/// Adds a piece, behind a `+` where it is not the first.
-fn push_piece(text: &mut String, piece: &str) -> Result<(), NoMemory>
-    ensures { OnOk result (string_bytes text.new ≡ with_piece (string_bytes text.old) piece.now) }
+/// Adds the `+` before a piece that is not the first.
+fn push_plus(text: &mut Bytes) -> Result<(), NoMemory>
+    ensures { OnOk result ((piece : List ℕ) → text.new ++ piece ≡ with_piece text.old piece) }
 {
-    if !text.is_empty() {
-        text.push_str("+")?;
+    if text.as_slice().is_empty() {
+        return Ok(());
     }
-    text.push_str(piece)?;
-    Ok(())
+    text.push(b'+')
 }

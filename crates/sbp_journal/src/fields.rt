@@ -1,13 +1,14 @@
 ghost use Rattle.std.specs.Prelude.{◌≡◌, ◌+◌, ◌<◌, ◌≤◌, ◌∷◌, ◌++◌, [], OnOk, length, slice_index};
 ghost use Rattle.hex.specs.Hex.{upper_digits};
 ghost use Rattle.sbp_journal.specs.Form.{IsSense, IsStatus, IsCheck};
+ghost use Rattle.line_text.specs.Canonical.{piece_text, repeated};
 ghost use Rattle.line_text.specs.Fields.{Field, word, further, sense_word};
 ghost use Rattle.sbp_journal.specs.Text.{orb_fields, named_fields, buffer_fields, status_fields, check_fields, answer_fields, end_fields, login_fields};
 
-use crate::canonical::canonical_text;
+use crate::canonical::{canonical_text, one_run};
 use crate::note::NoteBuffer;
 use crate::operation::OpWord;
-use crate::writer::{make_room, push_any_name};
+use crate::writer::{make_room, push_text};
 use line_text::Room;
 use orb_layout::StatusKind;
 use rbc_command::Sense;
@@ -81,9 +82,26 @@ pub fn push_canonical(
         room.push_name("-");
         return Ok(());
     }
+    if let Some((byte, count)) = one_run(bytes) {
+        make_room(out, room, 40)?;
+        push_run(room, byte, count);
+        return Ok(());
+    }
     let text = canonical_text(alloc, bytes)?;
-    push_any_name(out, room, &text)?;
+    push_text(out, room, text.as_slice())?;
     make_room(out, room, 16)
+}
+
+/// Adds a blank, a byte and how often it stands.
+#[inline(always)]
+fn push_run(room: &mut Room, byte: u8, count: usize)
+    requires { length room.old + 40 ≤ 1024 }
+    ensures text { room.new ≡ room.old ++ 32 ∷ piece_text (repeated byte count) }
+    ensures few { length room.new + 16 ≤ 1024 }
+{
+    room.push_few_digits(&[byte]);
+    room.push_byte(b'*');
+    room.push_decimal(count as u64);
 }
 
 /// Adds `uUNIT`.

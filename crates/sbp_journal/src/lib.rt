@@ -24,5 +24,5 @@ pub use note::{Note, NoteBuffer};
 pub use operation::{FunctionWord, OpWord, Operation};
 pub use outbox::{Outbox, Outgoing};
 pub use side::Side;
-pub use text::{append_note, append_notes, put_note, write_note};
-pub use writer::LineWriter;
+pub use text::{append_note, append_notes, put_line, put_note, write_note};
+pub use writer::{LineWriter, make_room};

@@ -73,7 +73,12 @@ fn put_lines(
 
 /// Adds the line of a note, with its line feed, to bytes, the last of which wait in a room.
 #[inline(always)]
-fn put_line(alloc: Global, note: &Note, out: &mut Bytes, room: &mut Room) -> Result<(), NoMemory>
+pub fn put_line(
+    alloc: Global,
+    note: &Note,
+    out: &mut Bytes,
+    room: &mut Room,
+) -> Result<(), NoMemory>
     requires { HasForm note.now }
     ensures { OnOk result (out.new ++ room.new ≡ out.old ++ room.old ++ note_text note.now) }
 {

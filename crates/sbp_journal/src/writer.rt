@@ -1,7 +1,7 @@
 ghost use Rattle.std.specs.Prelude.{◌≡◌, ◌+◌, ◌≤◌, ◌∷◌, ◌++◌, [], length, IfOk, OnOk};
 ghost use Rattle.hex.specs.Hex.{encode_upper};
 
-use line_text::{Room, push_digits, push_name};
+use line_text::{Room, push_digits};
 use sbp_base::{Bytes, NoMemory};
 use std::marker::Model;
 
@@ -57,7 +57,7 @@ impl LineWriter {
 
 /// Has the room take so many more bytes: those that wait there are added where they must.
 #[inline(always)]
-pub(crate) fn make_room(bytes: &mut Bytes, room: &mut Room, more: usize) -> Result<(), NoMemory>
+pub fn make_room(bytes: &mut Bytes, room: &mut Room, more: usize) -> Result<(), NoMemory>
     requires { more ≤ 1024 }
     ensures text { OnOk result (bytes.new ++ room.new ≡ bytes.old ++ room.old) }
     ensures room { OnOk result (length room.new + more ≤ 1024) }
@@ -102,14 +102,16 @@ fn push_long_packet(bytes: &mut Bytes, room: &mut Room, packet: &[u8]) -> Result
     push_digits(bytes, packet)
 }
 
-/// Adds a blank and a word of any length.
-pub(crate) fn push_any_name(bytes: &mut Bytes, room: &mut Room, name: &str) -> Result<(), NoMemory>
-    ensures { OnOk result (bytes.new ++ room.new ≡ bytes.old ++ (room.old ++ 32 ∷ name.now)) }
+/// Adds a blank and a text of any length.
+pub(crate) fn push_text(bytes: &mut Bytes, room: &mut Room, text: &[u8]) -> Result<(), NoMemory>
+    ensures { OnOk result (bytes.new ++ room.new ≡ bytes.old ++ (room.old ++ 32 ∷ text.now)) }
 {
-    if name.len() < 1024 && room.takes(name.len() + 1) {
-        room.push_name(name);
+    if text.len() < 1024 && room.takes(text.len() + 1) {
+        room.push_byte(b' ');
+        room.push(text);
         return Ok(());
     }
     hand_over(bytes, room)?;
-    push_name(bytes, name)
+    bytes.push(b' ')?;
+    bytes.extend_from_slice(text)
 }

@@ -1,5 +1,4 @@
-use Rattle.std.proofs.Common.{◌<◌, length, string_bytes, sym, ◌∙◌, arith}
-use Rattle.std.proofs.lemmas.Bool.Decides.{nat_tests}
+use Rattle.std.proofs.Common.{sym, ◌∙◌, arith}
 use Rattle.sbp_journal.proofs.Runs.{short_turn, long_turn, last_turn, canonical-pieces}
 use Rattle.sbp_journal.proofs.canonical.canonical_text.Goals as goal
 use Rattle.sbp_journal.proofs.canonical.canonical_text.Goals.{then-count-ge-LONG+in_ok-push_plain+in_ok-push_repeated, else-count-ge-LONG}
@@ -10,7 +9,7 @@ loop-at-preserved c =
     let at = c.loop-at.at in
     let start = c.loop-at.start in
     let count = c.run_length-count.result in
-    let text = string_bytes c.loop-at.text in
+    let text = c.loop-at.text in
     let inv = c.loop-at.invariant in
     let counted = c.run_length-count.ensures.counted in
     elim c.if-count-ge-LONG.branch [
@@ -35,8 +34,7 @@ loop-at-preserved c =
 pub returns : goal.returns
 returns c =
     let bytes = c.args.bytes.now in
-    let text = string_bytes c.loop-at.text in
+    let text = c.loop-at.text in
     let inv = c.loop-at.invariant in
-    let some : 0 < length bytes = grind (arith, nat_tests) in
     let turn = last_turn bytes text c.loop-at.start c.loop-at.at inv.within c.loop-at-test.false in
-    c.in_ok-push_plain-2.ensures ∙ sym turn ∙ inv.text ∙ sym (canonical-pieces bytes some)
+    c.in_ok-push_plain-2.ensures ∙ sym turn ∙ inv.text ∙ sym (canonical-pieces bytes c.requires)
