@@ -4,4 +4,3 @@ pub mod Ahead
 pub mod Lists
 pub mod Order
 pub mod Along
-pub mod Counting

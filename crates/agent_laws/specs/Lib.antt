@@ -6,4 +6,3 @@ pub mod Wire
 pub mod Bells
 pub mod Deaths
 pub mod Along
-pub mod Counting

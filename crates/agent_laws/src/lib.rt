@@ -1,13 +1,9 @@
 //! The laws of a command agent over every list of its calls, read off what goes over the wire.
 #![tactic(auto)]
 
-mod counts;
 mod growing;
 mod laws;
 
-pub use counts::{
-    chunks_are_counted, registers_make_no_more_requests, replies_make_no_more_requests,
-};
 pub use growing::{
     a_list_was_tried, agents_stay_along_growing_lists, calls_keep_agents_along, lists_go_in_order,
 };

@@ -4,4 +4,7 @@ pub mod Steps
 pub mod Runs
 pub mod Lost
 pub mod Counting
+pub mod Making
+pub mod Working
+pub mod Sound
 pub mod Tasks

@@ -168,6 +168,13 @@ impl Agent {
         self.payload.as_slice()
     }
 
+    /// The answer of the command that ran last.
+    pub fn answer(&self) -> &[u8]
+        ensures { result.now ≡ self.now.answer }
+    {
+        self.answer.as_slice()
+    }
+
     /// What came of the main transaction, or of the read ahead: the agent goes on, and runs the command
     /// of its present ORB once all of its data is there. `login` is the place of the login.
     #[tactic(auto, unfolding(crate::specs::Steps::reply_step))]

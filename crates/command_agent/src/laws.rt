@@ -1,5 +1,6 @@
 ghost use Rattle.command_agent.specs.Counting.{FailuresMakeNoMore, LostAheadsMakeNoMore};
 ghost use Rattle.command_agent.specs.Lost.{LostLaw, LossesRunNothing, TwoLossesEndIt, RereadsEndNothing};
+ghost use Rattle.command_agent.specs.Sound.{CallsKeepSound};
 
 /// A reply that fails runs no command and asks nothing of a unit or a medium: it is what
 /// [`crate::Agent::lose`] does. Two losses in turn leave no main transaction under way.
@@ -21,4 +22,10 @@ pub fn failing_reread_ends_nothing()
 pub fn failures_make_no_more_requests()
     ensures main { FailuresMakeNoMore }
     ensures ahead { LostAheadsMakeNoMore }
+{}
+
+/// What always holds of an agent, by its phase, holds behind each of its calls: of a reply, where a run
+/// told what a run of its command may tell.
+pub fn calls_keep_agents_sound()
+    ensures { CallsKeepSound }
 {}

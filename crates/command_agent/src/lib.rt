@@ -5,14 +5,20 @@
 
 mod agent;
 mod checks;
+mod counts;
 mod laws;
 mod phase;
 mod room;
 mod step;
 
 pub use agent::{Agent, aligned};
+pub use counts::{
+    agents_work_until_an_end, chunks_are_counted, registers_make_no_more_requests,
+    replies_make_no_more_requests,
+};
 pub use laws::{
-    failed_reply_is_a_loss, failing_reread_ends_nothing, failures_make_no_more_requests,
+    calls_keep_agents_sound, failed_reply_is_a_loss, failing_reread_ends_nothing,
+    failures_make_no_more_requests,
 };
 pub use phase::{Phase, ReadAhead};
 pub use step::{AgentState, AgentStep, PointRefusal, Which};

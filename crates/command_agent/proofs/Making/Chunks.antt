@@ -9,7 +9,7 @@ use Rattle.page_table.specs.declared.segment.Chunk.{Chunk}
 use Rattle.page_table.specs.Buffer.{chunk, chunk_from, pieces, segment_chunks, chunks, bytes_of}
 use Rattle.command_agent.specs.Machine.{Machine, limit_of, cut_to}
 use Rattle.command_agent.specs.Counting.{pieces_from, behind}
-use Rattle.agent_laws.specs.Counting.{ChunksAreCounted}
+use Rattle.command_agent.specs.Making.{ChunksAreCounted}
 
 -- ---- they are counted
 pieces_length : (count base left limit : ℕ) → length (pieces count base left limit) ≡ count

@@ -25,10 +25,10 @@ use Rattle.command_agent.specs.Machine.{Machine, Holds, IsFilling, IsAnswering, 
 use Rattle.command_agent.specs.Steps.{quiet, sent, end_step, answer_step, answer_chunk, run_step, served, orb_read, table_read, elements_read, data_read, data_grown, chunk_written, turned, turn_step, reread_step, follow_step, status_written, next_read, advanced, told_or, is_label, ahead_read, ahead_step, ahead_lost, reply_step}
 use Rattle.command_agent.specs.Counting.{mark, pieces_from, data_left, behind, left_in, left_of, made, MakesAtMost}
 use Rattle.command_agent.proofs.Counting.{left_beside}
-use Rattle.agent_laws.specs.Counting.{BringsBy, MayTellSo, is_at_work, RepliesMakeNoMore, unless_failed, pointer_read, followed, share, TurnsMakeTheirShare, was_sent, AheadsMakeNothing}
-use Rattle.agent_laws.proofs.Counting.Chunks.{size_small}
-use Rattle.agent_laws.proofs.Counting.Runs.{makes_more, either, end_makes, data_makes, answer_makes, run_makes, dry_makes, judge_makes}
-use Rattle.agent_laws.proofs.Counting.Checks.{check_makes}
+use Rattle.command_agent.specs.Making.{BringsBy, MayTellSo, is_at_work, RepliesMakeNoMore, unless_failed, pointer_read, followed, share, TurnsMakeTheirShare, was_sent, AheadsMakeNothing}
+use Rattle.command_agent.proofs.Making.Chunks.{size_small}
+use Rattle.command_agent.proofs.Making.Runs.{makes_more, either, end_makes, data_makes, answer_makes, run_makes, dry_makes, judge_makes}
+use Rattle.command_agent.proofs.Making.Checks.{check_makes}
 
 -- what a move brings about, and what may be told of it
 abbrev done : ℕ → PlainDisk → Told → Move × Machine → AgentStep × Machine
@@ -59,7 +59,7 @@ table_makes tables chunks m place plain told (Ok bytes) fresh brings may =
 abbrev filled_to : Machine → ℕ → ℕ
 filled_to m wanted = length m.payload + (chunk_of m (length m.payload) wanted).length
 
-read_size : (answer : Answer) (size : ℕ) (bytes : List ℕ) → payload_of answer size ≡ Ok bytes → length bytes ≡ size
+pub read_size : (answer : Answer) (size : ℕ) (bytes : List ℕ) → payload_of answer size ≡ Ok bytes → length bytes ≡ size
 read_size (Payload read) size bytes e = by (length read == size) refl e
   where
     by : (b : Bool) → (length read == size) ≡ b → cond b (Ok read) (Err causes.Grammar) ≡ Ok bytes → length bytes ≡ size

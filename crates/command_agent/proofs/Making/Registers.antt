@@ -7,7 +7,7 @@ use Rattle.command_agent.specs.declared.phase.Phase.TheVariants as phases
 use Rattle.command_agent.specs.Machine.{Machine, state_in}
 use Rattle.command_agent.specs.Steps.{point_in, point_step, doorbell_in, doorbell_step, reset_step, abort_step}
 use Rattle.command_agent.specs.Counting.{is_made, mark, left_in, left_of}
-use Rattle.agent_laws.specs.Counting.{asked_by, share, PointersMakeTheirShare, DoorbellsMakeOne, ResetsMakeNothing, AbortsMakeNothing}
+use Rattle.command_agent.specs.Making.{asked_by, share, PointersMakeTheirShare, DoorbellsMakeOne, ResetsMakeNothing, AbortsMakeNothing}
 
 abbrev placed : Phase → Machine → Machine
 placed phase m = record m { phase = phase }

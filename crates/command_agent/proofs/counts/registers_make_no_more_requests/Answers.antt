@@ -1,6 +1,6 @@
 -- What registers make.
-use Rattle.agent_laws.proofs.Counting.Registers.{pointers_make_their_share, doorbells_make_one, resets_make_nothing, aborts_make_nothing}
-use Rattle.agent_laws.proofs.counts.registers_make_no_more_requests.Goals as goal
+use Rattle.command_agent.proofs.Making.Registers.{pointers_make_their_share, doorbells_make_one, resets_make_nothing, aborts_make_nothing}
+use Rattle.command_agent.proofs.counts.registers_make_no_more_requests.Goals as goal
 
 pub returns-clause-pointers : goal.returns-clause-pointers
 returns-clause-pointers c = pointers_make_their_share

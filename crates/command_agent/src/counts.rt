@@ -1,7 +1,8 @@
-ghost use Rattle.agent_laws.specs.Counting.{ChunksAreCounted, RepliesMakeNoMore, TurnsMakeTheirShare, AheadsMakeNothing, PointersMakeTheirShare, DoorbellsMakeOne, ResetsMakeNothing, AbortsMakeNothing};
+ghost use Rattle.command_agent.specs.Making.{ChunksAreCounted, RepliesMakeNoMore, TurnsMakeTheirShare, AheadsMakeNothing, PointersMakeTheirShare, DoorbellsMakeOne, ResetsMakeNothing, AbortsMakeNothing};
+ghost use Rattle.command_agent.specs.Working.{RepliesGoOn, AheadsBeginNone, LossesBeginNone};
 
 /// The pieces of at most so many bytes that are left of a whole buffer are its chunks.
-#[tactic(auto, using(crate::proofs::Counting::Chunks::chunks_are_counted))]
+#[tactic(auto, using(crate::proofs::Making::Chunks::chunks_are_counted))]
 pub fn chunks_are_counted()
     ensures { ChunksAreCounted }
 {}
@@ -22,4 +23,13 @@ pub fn registers_make_no_more_requests()
     ensures doorbells { DoorbellsMakeOne }
     ensures resets { ResetsMakeNothing }
     ensures aborts { AbortsMakeNothing }
+{}
+
+/// From the turn of an ORB until its end an agent is at work: a reply for the present ORB, and one that
+/// has the turn of another, leaves it at work or ends an ORB, and behind an end it is not at work. The
+/// reply to a read ahead, and a transaction that fails, begin no ORB.
+pub fn agents_work_until_an_end()
+    ensures replies { RepliesGoOn }
+    ensures aheads { AheadsBeginNone }
+    ensures losses { LossesBeginNone }
 {}

@@ -18,8 +18,8 @@ use Rattle.command_agent.specs.Runs.{MayTell}
 use Rattle.command_agent.specs.Steps.{asks, checked, check_step, judge_step, ahead_of, with_ahead, unread_buffer}
 use Rattle.command_agent.specs.Counting.{mark, MakesAtMost}
 use Rattle.command_agent.proofs.Counting.{left_beside}
-use Rattle.agent_laws.specs.Counting.{HasAtMost, MayTellSo}
-use Rattle.agent_laws.proofs.Counting.Runs.{makes_more, end_makes, judge_makes}
+use Rattle.command_agent.specs.Making.{HasAtMost, MayTellSo}
+use Rattle.command_agent.proofs.Making.Runs.{makes_more, end_makes, judge_makes}
 
 -- an ORB that passed its checks: its page table is read, or its command judged
 passed_makes : (tables chunks : ℕ) (m : Machine) (told : Told) (place : ℕ) (plain : PlainDisk) (reads : Bool) → reads_table m.orb ≡ reads → m.payload ≡ [] → HasAtMost tables chunks m.orb
@@ -50,7 +50,7 @@ tells_beside : (ran : Option Outcome) (m : Machine) (ahead : ReadAhead) (doorbel
 tells_beside None m ahead doorbell place plain may = tt
 tells_beside (Some outcome) m ahead doorbell place plain may = record { fed = may.fed; ended = may.ended; size = may.size; len = may.len; answered = may.answered }
 
-tells_before : (dead : Option FailCause) (next : OrbPointer) (s : AgentStep × Machine) (place : ℕ) (plain : PlainDisk) → MayTellSo (ahead_of dead next s) place plain → MayTellSo s place plain
+pub tells_before : (dead : Option FailCause) (next : OrbPointer) (s : AgentStep × Machine) (place : ℕ) (plain : PlainDisk) → MayTellSo (ahead_of dead next s) place plain → MayTellSo s place plain
 tells_before None (At next) s place plain may = tells_beside s.0.ran s.1 (aheads.UnderWay s.1.doorbell) false place plain may
 tells_before None Null s place plain may = may
 tells_before (Some cause) next s place plain may = may

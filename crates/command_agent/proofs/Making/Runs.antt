@@ -24,8 +24,8 @@ use Rattle.command_agent.specs.Runs.{MayRun}
 use Rattle.command_agent.specs.Steps.{end_step, data_step, answer_step, ran_as, run_step, judged, judge_step}
 use Rattle.command_agent.specs.Counting.{mark, pieces_from, data_left, behind, MakesAtMost}
 use Rattle.command_agent.proofs.Fits.{answer_fits, filled_by}
-use Rattle.agent_laws.specs.Counting.{pieces_of, MayTellSo}
-use Rattle.agent_laws.proofs.Counting.Chunks.{one_chunk}
+use Rattle.command_agent.specs.Making.{pieces_of, MayTellSo}
+use Rattle.command_agent.proofs.Making.Chunks.{one_chunk}
 
 pub makes_more : {tables chunks some most marks : ℕ} {s : AgentStep × Machine} → some ≤ most → MakesAtMost tables chunks some marks s → MakesAtMost tables chunks most marks s
 makes_more few a = record { requests = omega (arith, few, a.requests); marked = a.marked }
@@ -61,7 +61,7 @@ answer_makes tables chunks most m below fits few =
 
 -- ---- what a run tells
 -- an answer has the length told, and fits the buffer
-abbrev AnswerFits : Outcome → Machine → Type 0
+abbrev pub AnswerFits : Outcome → Machine → Type 0
 AnswerFits (outcomes.Good len) m = (length m.answer ≡ len) × (len ≤ bytes_of m.segments)
 AnswerFits (outcomes.Check check) m = Unit {0}
 
@@ -75,7 +75,7 @@ told_fits m len place plain r =
     let same = r.len refl in
     (r.size, omega (arith, fits, same))
 
-ran_fits : (outcome : Outcome) (m : Machine) (place : ℕ) (plain : PlainDisk) → MayRun (ran_as m outcome).1 place outcome plain → AnswerFits outcome m
+pub ran_fits : (outcome : Outcome) (m : Machine) (place : ℕ) (plain : PlainDisk) → MayRun (ran_as m outcome).1 place outcome plain → AnswerFits outcome m
 ran_fits (outcomes.Check check) m place plain r = tt
 ran_fits (outcomes.Good len) m place plain r = by (len == 0) r
   where

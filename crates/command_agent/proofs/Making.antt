@@ -3,3 +3,4 @@ pub mod Runs
 pub mod Checks
 pub mod Replies
 pub mod Registers
+pub mod Working

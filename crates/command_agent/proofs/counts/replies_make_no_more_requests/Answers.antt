@@ -1,6 +1,6 @@
 -- What replies make.
-use Rattle.agent_laws.proofs.Counting.Replies.{replies_make_no_more, turns_make_their_share, aheads_make_nothing}
-use Rattle.agent_laws.proofs.counts.replies_make_no_more_requests.Goals as goal
+use Rattle.command_agent.proofs.Making.Replies.{replies_make_no_more, turns_make_their_share, aheads_make_nothing}
+use Rattle.command_agent.proofs.counts.replies_make_no_more_requests.Goals as goal
 
 pub returns-clause-replies : goal.returns-clause-replies
 returns-clause-replies c = replies_make_no_more
