@@ -1,5 +1,5 @@
 -- A script of `tasks` ends as its status says.
-use Rattle.std.proofs.Common.{◌≡◌, ◌∙◌, refl, sym, ap, subst, ℕ, ◌+◌, inl, inr, List, [], ◌∷◌, ◌++◌, length, reverse, Option, Some, None}
+use Rattle.std.proofs.Common.{◌≡◌, ◌∙◌, refl, sym, ap, subst, arith, ℕ, ◌+◌, ◌≤◌, inl, inr, List, [], ◌∷◌, ◌++◌, length, reverse, Option, Some, None}
 use Rattle.std.specs.List.{AllByRecursion}
 use Rattle.std.proofs.lemmas.List.{reverse-reverse}
 use Rattle.rbc_disk.specs.Held.{Held}
@@ -21,15 +21,18 @@ use Rattle.sbp_world.specs.Runs.{Run}
 use Rattle.task_world.specs.Runs.{IsTaskRun}
 use Rattle.task_world.specs.Worlds.{TaskScene, TaskWorldState}
 use Rattle.task_world.specs.Media.{notes_of}
+use Rattle.task_world.specs.Wire.Keeping.{IsLikeAScripts}
 use Rattle.task_world.proofs.NotesWritten.{notes_are_written}
+use Rattle.task_world.proofs.Wire.Keeping.{wire_law}
 use Rattle.sbp_command.specs.Headline.{status_of}
-use Rattle.sbp_command.specs.TaskEnds.{HasTaskRun, RunsTasks, TaskEnds, task_command}
+use Rattle.sbp_command.specs.TaskEnds.{HasTaskRun, IsLawfulTaskRun, RunsTasks, TaskEnds, task_command}
 use Rattle.sbp_command.specs.TaskLines.{of_lines}
 use Rattle.sbp_command.specs.TaskRunner.{InRun, RanSo, Stands, task_meaning}
 use Rattle.sbp_command.proofs.Media.{journal_back}
 use Rattle.sbp_command.proofs.Scripts.{GoesOn, IsCommand, Tells, faulty, script_ends}
 use Rattle.sbp_command.proofs.TaskMedia.{run_fits, run_leaves}
-use Rattle.sbp_command.proofs.TaskScripts.{refused-says, served-fault, served-next}
+use Rattle.sbp_command.proofs.TaskScripts.{refused-says, served-fault, served-next, task_events_few}
+use Rattle.sbp_command.proofs.Wires.{entries_few}
 
 -- ---- what the task machine did
 
@@ -37,8 +40,20 @@ written : (run : Run) → IsTaskRun run → AllByRecursion AreTyped run.entries 
 written run is typed =
     subst (AllByRecursion IsWritten) (sym (ap reverse (journal_back run)) ∙ reverse-reverse (journal run)) (all_reverse IsWritten (notes_of run) (notes_are_written run is typed))
 
-has_task_run : (start : Held) (happened : List (ℕ × Event)) (text : List ℕ) (world : TaskWorldState) (media : Held) → (h : InRun start happened text world media) → HasTaskRun start happened (journal h.run) media
-has_task_run start happened text world media h = record {
+-- its lines are such as a script's, as many as there may be
+like_a_script : (start : Held) (happened : List (ℕ × Event)) (text : List ℕ) (world : TaskWorldState) (media : Held) → length happened ≤ 65536 → (h : InRun start happened text world media) → IsLikeAScripts h.run
+like_a_script start happened text world media few h =
+    let lines = entries_few h.line h.run happened h.events_are few in
+    record { count = omega (arith, lines); lines = h.lines }
+
+-- so that it is lawful
+is_lawful : (line : ℕ) (run : Run) → IsTaskRun run → IsLikeAScripts run → AllByRecursion AreTyped run.entries → IsLawfulTaskRun line run
+is_lawful line run is like typed =
+    let laws = wire_law line run is like in
+    record { of_wire = laws.of_wire; on_the_bus = laws.written typed }
+
+has_task_run : (start : Held) (happened : List (ℕ × Event)) (text : List ℕ) (world : TaskWorldState) (media : Held) → length happened ≤ 65536 → (h : InRun start happened text world media) → HasTaskRun start happened (journal h.run) media
+has_task_run start happened text world media few h = record {
   line = h.line;
   run = h.run;
   start_is = h.start_is;
@@ -49,19 +64,20 @@ has_task_run start happened text world media h = record {
   others = h.others;
   media_fit = run_fits start media world h.run h.start_is h.stands h.others;
   leaves = run_leaves start media world h.run h.start_is h.stands h.others h.line;
+  lawful = is_lawful h.line h.run h.stands.is (like_a_script start happened text world media few h) h.typed;
   written = written h.run h.stands.is h.typed;
   by_text = λ others w same_text. texts_determine others (journal h.run) w (written h.run h.stands.is h.typed) same_text;
 }
 
-tells_by : (start : Held) (happened : List (ℕ × Event)) (text : List ℕ) (o : Option TaskWorldState) (media : Held) → Stands start happened text o media → Tells task_command start happened text media
-tells_by start happened text None media h = record {
+tells_by : (start : Held) (happened : List (ℕ × Event)) (text : List ℕ) (o : Option TaskWorldState) (media : Held) → length happened ≤ 65536 → Stands start happened text o media → Tells task_command start happened text media
+tells_by start happened text None media few h = record {
   notes = [];
   ran = inl (record { events_are = h.events_are; notes_are = refl; media_are = h.media_are });
   text_is = h.text_is;
 }
-tells_by start happened text (Some world) media h = record {
+tells_by start happened text (Some world) media few h = record {
   notes = journal h.run;
-  ran = inr (has_task_run start happened text world media h);
+  ran = inr (has_task_run start happened text world media few h);
   text_is = h.text_is;
 }
 
@@ -73,7 +89,10 @@ left_by_notes start now happened notes (inr h) = h.media_fit
 -- ---- how it ended
 
 tells : (start : Held) (served : List (List ℕ)) (text : List ℕ) (state : Option TaskWorldState) (media : Held) → RanSo start served text state media → Tells task_command start (of_lines served).events text media
-tells start served text state media h = tells_by start (of_lines served).events text state media h.stands
+tells start served text state media h =
+    let few = task_events_few served in
+    let count = h.count in
+    tells_by start (of_lines served).events text state media (omega (arith, few, count)) h.stands
 
 next : (served : List (List ℕ)) (line : List ℕ) (others : List (List ℕ)) → (of_lines served).fault ≡ None → GoesOn (of_lines served) (of_lines (served ++ line ∷ others))
 next served line others clean = record { more = _; events = ap (λ (s : Script). s.events) (served-next served line others clean) }

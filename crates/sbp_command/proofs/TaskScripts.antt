@@ -1,5 +1,5 @@
 -- The script of `tasks`, line by line: it is that of `run`, up to the first line that is not here.
-use Rattle.std.proofs.Common.{◌≡◌, ◌∙◌, refl, sym, ap, subst, ℕ, suc, ◌+◌, ◌≤◌, nat_lt, Bool, true, false, if◌then◌else◌, List, [], ◌∷◌, ◌++◌, length, Option, Some, None, Result, Ok, Err, append-nil}
+use Rattle.std.proofs.Common.{◌≡◌, ◌∙◌, refl, sym, ap, subst, ℕ, suc, ◌+◌, ◌≤◌, nat_lt, Bool, true, false, if◌then◌else◌, List, [], ◌∷◌, ◌++◌, length, Option, Some, None, Result, Ok, Err, append-nil, arith}
 use Rattle.std.specs.Prelude.{IfSome}
 use Rattle.sbp_journal.specs.declared.event.Event.{Event}
 use Rattle.script_text.specs.Script.{Script, initiators_after, line_says, numbered, onto_script, script_from}
@@ -53,6 +53,10 @@ whole events fault = record { events = events; fault = fault }
 abbrev onto : Bool → ℕ → Event → Script → Script
 onto b number event rest =
     if b then record { events = (number, event) ∷ rest.events; fault = rest.fault } else record { events = []; fault = Some (number, not_here) }
+
+onto_few : (b : Bool) (number : ℕ) (event : Event) (rest : Script) (count : ℕ) → length rest.events ≤ count → length (onto b number event rest).events ≤ suc count
+onto_few true number event rest count few = omega (arith, few)
+onto_few false number event rest count few = omega arith
 
 onto_clean : (b : Bool) (number : ℕ) (event : Event) (rest : Script) → (onto b number event rest).fault ≡ None → (b ≡ true) × (rest.fault ≡ None)
 onto_clean true number event rest e = (refl, e)
@@ -187,3 +191,15 @@ hears_none i line e = ap found e
 pub hears_fault : (error : LineError) (i : ℕ) (line : List ℕ) → Hears {A = Event} (Err error) (run.heard i line) → Hears {A = Event} (Err error) (heard i line)
 hears_fault (Fault fault) i line e = ap found e
 hears_fault NoMemory i line e = tt
+
+-- ---- there are at most as many events as lines
+
+here_few : (events : List (ℕ × Event)) (fault : Option (ℕ × ℕ)) → length (here_from events fault).events ≤ length events
+here_few [] fault = omega arith
+here_few ((number, event) ∷ rest) fault = onto_few (is_here event) number event (here_from rest fault) (length rest) (here_few rest fault)
+
+pub task_events_few : (served : List (List ℕ)) → length (of_lines served).events ≤ length served
+task_events_few served =
+    let all = lines.events_few 1 0 served in
+    let here = here_few (run.of_lines served).events (run.of_lines served).fault in
+    omega (arith, all, here)

@@ -9,13 +9,14 @@ use Rattle.sbp_journal.specs.declared.event.Event.TheVariants as events
 use Rattle.sbp_journal.specs.Text.{text_of}
 use Rattle.line_session.specs.Meaning.{Meaning}
 use Rattle.sbp_world.specs.Forms.{AreTyped}
-use Rattle.sbp_world.specs.Runs.{Entry, Run}
+use Rattle.sbp_world.specs.Runs.{Run}
 use Rattle.sbp_world.specs.Wire.Lines.{IsLine}
 use Rattle.script_runner.specs.Events.{MayLeave, events_of, journal}
 use Rattle.script_runner.specs.Script.{begun_by}
 use Rattle.task_world.specs.Lines.{IsTaskEvent}
 use Rattle.task_world.specs.Media.{first_of}
 use Rattle.task_world.specs.Runs.{TaskRuns}
+use Rattle.task_world.specs.Wire.Keeping.{AreLines}
 use Rattle.task_world.specs.Worlds.{TaskScene, TaskWorldState, task_scene}
 use Rattle.sbp_command.specs.TaskLines.{of_lines, says}
 
@@ -44,10 +45,6 @@ MayHappenIn None event = event ≡ beginning_event
 MayHappenIn (Some world) event = IsTaskEvent event × IsLine event 1
 
 -- ---- a run
-
--- each line is one of the wire, on which there is one initiator
-abbrev pub AreLines : List Entry → Type 0
-AreLines entries = AllByRecursion (λ e. IsLine e.event 1) entries
 
 -- The task world and the medium of unit 0 stand for a run of the task machine over these events, whose journal has this text and is of
 -- notes inside their types; the other media are as they were.

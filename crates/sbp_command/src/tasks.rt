@@ -38,16 +38,17 @@ const NOT_HERE: u8 = 11;
 pub struct TaskRunner {
     alloc: Global,
     /// None before the run begins.
-    world: Option<TaskWorld>,
+    world: Option<Box<TaskWorld>>,
 }
 
 impl Model for TaskRunner {
+    ghost use Rattle.std.specs.Option.{option_map};
     ghost use Rattle.std.specs.Prelude.{Option};
     ghost use Rattle.task_world.specs.Worlds.{TaskWorldState};
 
     ghost Value = { Option TaskWorldState };
 
-    ghost view = { λ runner. runner.world };
+    ghost view = { λ runner. option_map (λ world. world.value) runner.world };
 }
 
 /// Whether a line is one of `tasks`.
@@ -142,6 +143,14 @@ fn run_task_line(
     append_notes(alloc, world.fresh().as_slice(), out)
 }
 
+/// A run begins. Its world is large, so it stands on the heap.
+fn begin_world(alloc: Global) -> Result<Box<TaskWorld>, NoMemory>
+    ensures world { IfOk result (λ world. world.value ≡ new_task_world) }
+    ensures form { IfOk result (λ world. AllByRecursion HasForm world.value.world.fresh) }
+{
+    Ok(Box::new(alloc, TaskWorld::begin(alloc)?)?)
+}
+
 impl TaskRunner {
     /// No run has begun.
     pub fn new(alloc: Global) -> Self
@@ -165,7 +174,7 @@ impl TaskRunner {
         ensures state { OnOk result (self.new ≡ Some new_task_world) }
         ensures text { OnOk result (out.new ≡ out.old ++ text_of (notes_begin 1 true ∷ [])) }
     {
-        let world = TaskWorld::begin(self.alloc)?;
+        let world = begin_world(self.alloc)?;
         append_notes(self.alloc, world.fresh().as_slice(), out)?;
         self.world = Some(world);
         Ok(())

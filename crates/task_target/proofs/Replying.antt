@@ -1,6 +1,7 @@
 -- What a run told is what the step of the agent tells.
 use Rattle.std.proofs.Common.{◌≡◌, ℕ, ap, subst, sym, refl, ◌∙◌, ◌≤◌, arith}
-use Rattle.std.specs.Prelude.{Bool, true, false, if◌then◌else◌, Option, Some, None, Result, Ok, Err, OnOk}
+use Rattle.std.specs.List.{AllByRecursion}
+use Rattle.std.specs.Prelude.{◌<◌, IfSome, Bool, true, false, if◌then◌else◌, Option, Some, None, Result, Ok, Err, OnOk}
 use Rattle.async_packet.specs.Labels.{LabelParts}
 use Rattle.login_table.specs.declared.login.Login.{Login}
 use Rattle.orb_layout.specs.Replies.{Answer}
@@ -24,12 +25,17 @@ pub count_rises : (ran : Option Outcome) (count now : ℕ) → now ≡ count_aft
 count_rises None count now e = omega arith
 count_rises (Some outcome) count now e = subst (λ n. count ≤ n) (sym e) (risen (is_failure (check_in outcome)) count)
 
-pub replied_so : (place : ℕ) (answer : Answer) (old new : Stage) (step : TaskStep) (m : TaskMachine) (before now : ℕ) → (step, new) ≡ replied (told_in step.ran (task_at m (place_of old.node.agent place)).answer) place answer old → (step, m) ≡ agent_step (told_in step.ran (task_at m (place_of old.node.agent place)).answer) place answer old → MayTell step.ran (task_at m (place_of old.node.agent place)) 0 (plain_in old) → now ≡ count_after step.ran before → Replies (told_in step.ran (task_at m (place_of old.node.agent place)).answer) place answer old step new before now
-replied_so place answer old new step m before now e a h n = record {
+-- the answer in the place that the step is about is bytes
+abbrev pub AnswerBytes : ℕ → Stage → TaskMachine → Type 0
+AnswerBytes place old m = IfSome (about old.node.agent place) (λ at. AllByRecursion (λ byte. byte < 256) (task_at m at).answer)
+
+pub replied_so : (place : ℕ) (answer : Answer) (old new : Stage) (step : TaskStep) (m : TaskMachine) (before now : ℕ) → (step, new) ≡ replied (told_in step.ran (task_at m (place_of old.node.agent place)).answer) place answer old → (step, m) ≡ agent_step (told_in step.ran (task_at m (place_of old.node.agent place)).answer) place answer old → MayTell step.ran (task_at m (place_of old.node.agent place)) 0 (plain_in old) → AnswerBytes place old m → now ≡ count_after step.ran before → Replies (told_in step.ran (task_at m (place_of old.node.agent place)).answer) place answer old step new before now
+replied_so place answer old new step m before now e a h b n = record {
   is = e;
   tells = record {
     so = ap (λ (s : TaskStep × TaskMachine). told_in s.0.ran (task_at s.1 (place_of old.node.agent place)).answer) a;
     may = subst (λ (s : TaskStep × TaskMachine). MayTell s.0.ran (task_at s.1 (place_of old.node.agent place)) 0 (plain_in old)) a h;
+    bytes = subst (λ (s : TaskStep × TaskMachine). AnswerBytes place old s.1) a b;
     counted = n ∙ ap (λ (s : TaskStep × TaskMachine). count_after s.0.ran before) a;
   };
 }
@@ -40,7 +46,7 @@ unfolding advance
 advanced_so place login answer old new before mid now told step st at r a e d n = record {
   told = told;
   is = ap (λ disk. whole (scene new.node new.outbox) disk) d ∙ (ap (λ s. whole s st.disk) (e ∙ ap (λ p. follow login p step (scene st.node old.outbox)) a) ∙ ap (λ x. advanced_with place login x old) r.is);
-  tells = record { so = r.tells.so; may = r.tells.may; counted = n ∙ r.tells.counted };
+  tells = record { so = r.tells.so; may = r.tells.may; bytes = r.tells.bytes; counted = n ∙ r.tells.counted };
 }
 
 -- No login is served, or the agent does not wait for it: nothing happens.

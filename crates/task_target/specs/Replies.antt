@@ -1,5 +1,6 @@
 -- What came of a request of the target, and what its agent does then (NCITS 325-1998, command block agents).
-use Rattle.std.specs.Prelude.{◌≡◌, ℕ, ◌&&◌, Bool, true, false, Option, Some, None}
+use Rattle.std.specs.Prelude.{◌≡◌, ℕ, ◌<◌, ◌&&◌, IfSome, Bool, true, false, Option, Some, None}
+use Rattle.std.specs.List.{AllByRecursion}
 use Rattle.async_packet.specs.Labels.{LabelParts}
 use Rattle.login_table.specs.declared.login.Login.{Login}
 use Rattle.login_table.specs.Table.{place_at}
@@ -75,10 +76,11 @@ advanced_with place login (step, st) w = whole (follow login (about w.node.agent
 unfoldable pub advance : Option Told → ℕ → Login → Answer → Whole → Whole
 advance told place login answer w = advanced_with place login (replied told place answer (stage w.node w.disk)) w
 
--- What a run told is what the step tells, and a run of that command may tell it; the count of faults before and after.
+-- What a run told is what the step tells, and a run of that command may tell it; its answer is bytes; the count of faults before and after.
 pub record Tells (told : Option Told) (place : ℕ) (answer : Answer) (s : Stage) (before now : ℕ) : Type 0 where
   pub so : told ≡ told_in (agent_step told place answer s).0.ran (task_at (agent_step told place answer s).1 (place_of s.node.agent place)).answer
   pub may : MayTell (agent_step told place answer s).0.ran (task_at (agent_step told place answer s).1 (place_of s.node.agent place)) 0 (plain_in s)
+  pub bytes : IfSome (about s.node.agent place) (λ at. AllByRecursion (λ byte. byte < 256) (task_at (agent_step told place answer s).1 at).answer)
   pub counted : now ≡ count_after (agent_step told place answer s).0.ran before
 
 -- no command ran

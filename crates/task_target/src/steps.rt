@@ -1,4 +1,5 @@
 ghost use Rattle.std.specs.Prelude.{◌≡◌, ◌<◌, ◌≤◌, length, true, IfSome};
+ghost use Rattle.std.specs.List.{AllByRecursion};
 ghost use Rattle.orb_layout.specs.Replies.{answer_of};
 ghost use Rattle.rbc_disk.specs.Units.{plain_disk};
 ghost use Rattle.rbc_disk.specs.Runs.{told_in, left_by};
@@ -53,8 +54,30 @@ pub(crate) fn reply_in(
     ensures may { MayTell result.ran (task_at agent.new (place_of agent.old place)) 0 (plain_disk unit.old (disk medium.old)) }
     ensures cause { media_faults medium.new ≡ count_after result.ran (media_faults medium.old) }
     ensures few { length result.asks ≤ 2 }
+    ensures bytes { IfSome (about agent.old place) (λ at. AllByRecursion (λ byte. byte < 256) (task_at agent.new at).answer) }
 {
-    agent.reply(unit, medium, LOGIN, place, reply)
+    let at = about(agent, place);
+    let step = agent.reply(unit, medium, LOGIN, place, reply);
+    see_bytes(agent, at);
+    step
+}
+
+/// The answer in a task place is bytes.
+fn see_bytes(agent: &TaskAgent, at: Option<u8>)
+    requires { IfSome at (λ at. at < 8) }
+    ensures { IfSome at (λ at. AllByRecursion (λ byte. byte < 256) (task_at agent.now at).answer) }
+{
+    if let Some(at) = at {
+        are_bytes(agent.answer(at));
+    }
+}
+
+/// These are bytes: a proof knows what the type of a number says where the number is read, and nothing
+/// else is done.
+fn are_bytes(bytes: &[u8])
+    ensures { AllByRecursion (λ byte. byte < 256) bytes.now }
+{
+    let _count = bytes.len();
 }
 
 /// The transaction of a place was not sent, or had no answer: no command runs, so that the unit and its

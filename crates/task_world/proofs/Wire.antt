@@ -5,6 +5,7 @@ pub mod Expired
 pub mod Lines
 pub mod Runs
 pub mod Told
+pub mod ToldBytes
 pub mod Counts
 pub mod Brings
 pub mod Lined

@@ -10,17 +10,16 @@ pub fn task_calls_fit_the_wire()
     ensures { FittingLaw }
 {}
 
-/// Each line of a run of `tasks` is a list of moves of the wire, where the run is such as a script's and what its
-/// commands told is bytes: so the history of such a run has the laws of the wire, and a write is taken as new at
-/// most once.
+/// Each line of a run of `tasks` is a list of moves of the wire, where the run is such as a script's: so the
+/// history of such a run has the laws of the wire, and a write is taken as new at most once.
 #[tactic(auto, using(crate::proofs::Wire::Runs::wire_run_law))]
 pub fn task_lines_are_moves()
     ensures { WireRunLaw }
 {}
 
-/// Every run of `tasks` that is such as a script's, and whose commands told bytes, has the part of the laws that is
-/// of the bus: each note has its form, a write is taken as new at most once, and the lines bring the deliveries,
-/// refusals and ends that they ask for.
+/// Every run of `tasks` that is such as a script's has the part of the laws that is of the bus: each note has its
+/// form, a write is taken as new at most once, and the lines bring the deliveries, refusals and ends that they ask
+/// for.
 pub fn task_runs_are_lawful_on_the_bus()
     ensures { WireLaw }
 {}

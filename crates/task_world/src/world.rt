@@ -4,6 +4,7 @@ ghost use Rattle.sbp_journal.specs.Form.{HasForm};
 ghost use Rattle.sbp_journal.specs.Written.{IsTyped};
 ghost use Rattle.task_world.specs.Lines.{IsTaskEvent, TaskHappens};
 ghost use Rattle.task_world.specs.Making.{new_task_world};
+ghost use Rattle.task_world.specs.Wire.Keeping.{BeginsTaskLaws, KeepsTaskLaws};
 ghost use Rattle.task_world.specs.Worlds.{task_scene};
 
 use crate::parts::Parts;
@@ -32,9 +33,10 @@ impl Model for TaskWorld {
 impl TaskWorld {
     /// A run begins as `begin 1 ready` says: one initiator, which is logged in on the one unit. Its note is
     /// inside the types of its fields.
-    #[tactic(auto, unfolding(sbp_world::specs::Making::new_world))]
+    #[tactic(auto, using(crate::proofs::Wire::Keeping::begins_laws), unfolding(sbp_world::specs::Making::new_world))]
     pub fn begin(alloc: Global) -> Result<TaskWorld, NoMemory>
         ensures world { IfOk result (λ world. world ≡ new_task_world) }
+        ensures lawful { IfOk result (λ world. BeginsTaskLaws world) }
         ensures form { IfOk result (λ world. AllByRecursion HasForm world.world.fresh) }
         ensures typed { IfOk result (λ world. AllByRecursion IsTyped world.world.fresh) }
     {
@@ -48,7 +50,9 @@ impl TaskWorld {
     }
 
     /// Runs the event of the line with this number, over the medium of the unit; its notes are then
-    /// [`TaskWorld::fresh`], each inside the types of its fields. A refused action is a note.
+    /// [`TaskWorld::fresh`], each inside the types of its fields. A refused action is a note. Every run that the
+    /// world stood for goes on by this line, and such a run has the laws of the wire and of the bus's lines.
+    #[tactic(auto, using(crate::proofs::Wire::Keeping::keeps_laws))]
     pub fn step(
         &mut self,
         medium: &mut dyn Medium,
@@ -58,6 +62,7 @@ impl TaskWorld {
         requires event { IsTaskEvent event.now }
         ensures fell { media_faults medium.old ≤ media_faults medium.new }
         ensures happens { OnOk result (TaskHappens line event.now (task_scene self.old (disk medium.old) (media_faults medium.old)) (task_scene self.new (disk medium.new) (media_faults medium.new))) }
+        ensures lawful { OnOk result (KeepsTaskLaws line event.now (task_scene self.old (disk medium.old) (media_faults medium.old)) (task_scene self.new (disk medium.new) (media_faults medium.new))) }
         ensures form { OnOk result (AllByRecursion HasForm self.new.world.fresh) }
         ensures typed { OnOk result (AllByRecursion IsTyped self.new.world.fresh) }
     {

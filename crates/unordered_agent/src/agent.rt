@@ -108,6 +108,14 @@ impl TaskAgent {
         self.tasks.agent(usize::from(place)).payload()
     }
 
+    /// The answer of the command that ran last in a task place.
+    pub fn answer(&self, place: u8) -> &[u8]
+        requires { place < 8 }
+        ensures { result.now ≡ (task_at self.now place).answer }
+    {
+        self.tasks.agent(usize::from(place)).answer()
+    }
+
     /// A write of ORB_POINTER: in RESET, and in SUSPENDED without a task, a pointer that is not null is
     /// taken, and the ORB there is read.
     #[tactic(auto, unfolding(crate::specs::Steps::point_step))]

@@ -1,9 +1,11 @@
 ghost use Rattle.std.specs.Prelude.{◌≡◌, ◌+◌, ◌^◌, ◌<◌, ◌≤◌, length, true, IfSome, OnOk};
+ghost use Rattle.std.specs.List.{AllByRecursion};
 ghost use Rattle.orb_layout.specs.Replies.{answer_of};
 ghost use Rattle.rbc_disk.specs.Runs.{told_in};
 ghost use Rattle.command_agent.specs.Runs.{MayTell, count_after};
 ghost use Rattle.unordered_agent.specs.Machine.{is_busy, task_at};
 ghost use Rattle.unordered_agent.specs.Steps.{place_of};
+ghost use Rattle.task_target.specs.Following.{about};
 ghost use Rattle.task_target.specs.Nodes.{scene};
 ghost use Rattle.task_target.specs.Replies.{Advances, RepliesTo, agent_step, awaits, plain_in, replied, served_login, stage, whole};
 
@@ -91,6 +93,7 @@ impl Node {
         ensures may { MayTell result.ran (task_at self.new.agent (place_of self.old.agent place)) 0 (plain_in (stage self.old (disk medium.old))) }
         ensures cause { media_faults medium.new ≡ count_after result.ran (media_faults medium.old) }
         ensures few { length result.asks ≤ 2 }
+        ensures bytes { IfSome (about self.old.agent place) (λ at. AllByRecursion (λ byte. byte < 256) (task_at self.new.agent at).answer) }
         ensures count { self.new.layer.calls ≡ self.old.layer.calls }
     {
         let step = reply_in(&mut self.agent, &mut self.unit, medium, place, reply);

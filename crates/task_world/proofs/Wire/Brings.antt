@@ -12,24 +12,24 @@ use Rattle.sbp_world.proofs.FitInitiator.Law.{fitting_law as own_fitting_law}
 use Rattle.sbp_world.proofs.Wire.Arrivals.{IsTarget}
 use Rattle.sbp_world.proofs.Wire.Begun.{NoneBegins}
 use Rattle.sbp_world.proofs.Wire.Brings.{brings_if, flies_here, found_here, lapse_brings, left_of, lose_brings, lowest_here, many_bring, many_settle, repeats_here, some_sent}
+use Rattle.sbp_world.proofs.Wire.CommandBytes.{AreTold}
 use Rattle.sbp_world.proofs.Wire.Counted.{most_share}
 use Rattle.sbp_world.proofs.Wire.Entries.{act_none, counts_settle, none_back, none_by, own_aims}
 use Rattle.sbp_world.proofs.Wire.LineCounts.{acts_balance, loses_balance, more_balance, refuses, settles_by}
 use Rattle.sbp_world.proofs.Wire.Lowest.{AreMany, none_yet, one_more}
-use Rattle.sbp_world.proofs.Wire.Sound.{first_flies}
+use Rattle.sbp_world.proofs.Wire.Sound.{first_fits, first_flies}
 use Rattle.sbp_world.proofs.Wire.Turns.{Delivered}
 use Rattle.sbp_world.specs.Packets as packets
 use Rattle.task_world.specs.Delivering.{delivered}
 use Rattle.task_world.specs.Lines.{MayTellIn, happens_to, is_task_line}
 use Rattle.task_world.specs.Packets.{delivered_if, expires, timed_out, timeout_line, timeout_of}
 use Rattle.task_world.specs.Settling.{AreUpTo, MayAll, MayAt, MayNext, after_all, delivered_at, delivered_next, settled}
-use Rattle.task_world.specs.Wire.Keeping.{AreTold}
 use Rattle.task_world.specs.Worlds.{TaskScene, TaskWorldState, begun, world_of}
 use Rattle.task_world.proofs.Fit.Law.{fitting_law}
 use Rattle.task_world.proofs.Wire.Counts.{Counts, delivers_counts, times_out_counts}
 use Rattle.task_world.proofs.Wire.Delivered.{SoundScene}
 use Rattle.task_world.proofs.Wire.Expired.{SoundWorld}
-use Rattle.task_world.proofs.Wire.Lines.{first_fits, next_heard, opens}
+use Rattle.task_world.proofs.Wire.Lines.{next_heard, opens}
 use Rattle.task_world.proofs.Wire.Told.{delivers, ends, plain_left, same_expiry}
 
 -- ---- one packet

@@ -20,6 +20,7 @@ use Rattle.task_world.proofs.Wire.Brings.{begins_none, brings_line, counts_line}
 use Rattle.task_world.proofs.Wire.Counts.{Counts}
 use Rattle.task_world.proofs.Wire.Holding.{one_initiator}
 use Rattle.task_world.proofs.Wire.Runs.{sound_after, task_run}
+use Rattle.task_world.proofs.Wire.ToldBytes.{happened_fits}
 
 record BringsAll (line : ℕ) (start : Held) (entries : List Entry) : Type 0 where
   lines : LineLaw start.disks (journal_entries line (task_run start entries) entries)
@@ -37,18 +38,19 @@ brings_all line start (e ∷ entries) most all fit =
     let old = moments_behind line (task_run start entries) entries in
     let spent = so_far.spent in
     let one = one_initiator w s.node b.sound in
-    let event = subst (IsLine e.event) (sym one) fit.0.0 in
+    let event = subst (IsLine e.event) (sym one) fit.0 in
+    let fits = happened_fits e.event e.told s all.0.may in
     let weight : lists_weight w.loads ≡ shares old old = weighs (length w.initiators) (begun_in w.initiators) (keys_in w.initiators) (length entries * most_share) old w.places w.loads spent.counted in
     let weighs_now : lists_weight w.loads ≡ shares (map said w.fresh ++ b.past) (map said w.fresh ++ b.past) = subst (λ p. lists_weight w.loads ≡ shares p p) (sym b.is) weight in
     let same_count : length w.initiators ≡ initiators (map said w.fresh ++ b.past) = one ∙ sym so_far.counted ∙ ap initiators (sym b.is) in
-    let brings = brings_line start.disks s b.sound same_count weighs_now e.line e.event e.told all.0.event.here fit.0.1 all.0.may in
-    let none = begins_none start.disks s b.sound same_count weighs_now e.line e.event e.told all.0.event.here fit.0.1 all.0.may in
+    let brings = brings_line start.disks s b.sound same_count weighs_now e.line e.event e.told all.0.event.here fits all.0.may in
+    let none = begins_none start.disks s b.sound same_count weighs_now e.line e.event e.told all.0.event.here fits all.0.may in
     let now : List Moment = asked e.line e.event ∷ (map said w.fresh ++ b.past) in
     let balanced : Counts now (length entries * most_share) (begun s).scene.world = record {
       counted = subst (λ p. CountsIn w.initiators (length entries * most_share) (asked e.line e.event ∷ p) w) (sym b.is) spent.counted;
       states = spent.states;
     } in
-    let counts = counts_line start.disks s b.sound (length entries * most_share) (omega arith) e.line e.event e.told all.0.event.here event fit.0.1 all.0.may balanced in
+    let counts = counts_line start.disks s b.sound (length entries * most_share) (omega arith) e.line e.event e.told all.0.event.here event fits all.0.may balanced in
     let v = (task_happens e.line e.event e.told s).scene.world in
     record {
       lines = (

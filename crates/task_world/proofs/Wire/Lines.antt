@@ -5,25 +5,21 @@ use Rattle.rbc_disk.specs.Runs.{Told}
 use Rattle.sbp_journal.specs.declared.event.Event.TheVariants as events
 use Rattle.sbp_journal.specs.declared.note.Note.TheVariants as notes
 use Rattle.sbp_world.proofs.Words.World.{first_told, is_in_flight, is_settled, lowest, may_repeat, settled_from, BytesTold, IsLine, OwnFittingLaw, WorldState, without_notes}
+use Rattle.sbp_world.proofs.Wire.CommandBytes.{AreTold}
 use Rattle.sbp_world.proofs.Wire.OwnHears.{own_refuses}
 use Rattle.sbp_world.proofs.Wire.OwnLines.{own_acts, own_later, own_loses, own_opens}
 use Rattle.sbp_world.proofs.Wire.Repeats.{said_same}
-use Rattle.sbp_world.proofs.Wire.Sound.{first_flies}
+use Rattle.sbp_world.proofs.Wire.Sound.{first_fits, first_flies}
 use Rattle.sbp_world.proofs.Wire.Tells.{tells}
 use Rattle.task_target.specs.Nodes.{TaskNode}
 use Rattle.task_world.specs.Fitting.{FittingLaw}
 use Rattle.task_world.specs.Lines.{is_task_line, task_happens}
 use Rattle.task_world.specs.Packets.{delivered_if}
 use Rattle.task_world.specs.Settling.{after_all, delivered_at, delivered_next, settled}
-use Rattle.task_world.specs.Wire.Keeping.{AreTold}
 use Rattle.task_world.specs.Worlds.{TaskScene, begun}
 use Rattle.task_world.proofs.Wire.Delivered.{SoundScene, hears}
 use Rattle.task_world.proofs.Wire.Expired.{times_out}
 use Rattle.task_world.proofs.Wire.Holding.{TaskSound, own_node}
-
-pub first_fits : (told : List (Option Told)) → AreTold told → BytesTold (first_told told)
-first_fits [] t = tt
-first_fits (told ∷ before) t = t.0
 
 more : {past : List Moment} {lines : ℕ} (w : WorldState) (node : TaskNode) → TaskSound past lines w node → TaskSound past (lines + 1) w node
 more w node s = record { own = own_later s.own; target_is = s.target_is; bus = s.bus; holds = s.holds }

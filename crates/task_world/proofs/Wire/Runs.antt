@@ -21,6 +21,7 @@ use Rattle.task_world.proofs.Fit.Law.{fitting_law}
 use Rattle.task_world.proofs.Wire.Delivered.{SoundScene}
 use Rattle.task_world.proofs.Wire.Holding.{one_initiator}
 use Rattle.task_world.proofs.Wire.Lines.{line_goes}
+use Rattle.task_world.proofs.Wire.ToldBytes.{happened_fits}
 
 -- a run by one ready initiator over one unit
 abbrev pub task_run : Held → List Entry → Run
@@ -52,7 +53,7 @@ sound_after line start (e ∷ before) most all fit =
     record {
       past = asked e.line e.event ∷ (map said s.scene.world.fresh ++ b.past);
       sound = subst (λ n. SoundScene (asked e.line e.event ∷ (map said s.scene.world.fresh ++ b.past)) n (task_happens e.line e.event e.told s)) (let x : length before + 1 ≡ suc (length before) = omega arith in x)
-          (line_goes fitting_law own_fitting_law e.line e.event e.told s all.0.event.here (subst (IsLine e.event) (sym (one_initiator s.scene.world s.node b.sound)) fit.0.0) fit.0.1 (omega arith) b.sound);
+          (line_goes fitting_law own_fitting_law e.line e.event e.told s all.0.event.here (subst (IsLine e.event) (sym (one_initiator s.scene.world s.node b.sound)) fit.0) (happened_fits e.event e.told s all.0.may) (omega arith) b.sound);
       is = ap (λ ns. map said ns ++ asked e.line e.event ∷ (map said s.scene.world.fresh ++ b.past)) (sym all.0.notes_are)
           ∙ ap (λ ms. map said e.notes ++ asked e.line e.event ∷ ms) b.is;
     }
