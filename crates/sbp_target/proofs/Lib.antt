@@ -10,3 +10,4 @@ pub mod Acting
 pub mod Reached
 pub mod Histories
 pub mod Requests
+pub mod SoundAgents

@@ -12,6 +12,8 @@ pub mod Receiving
 pub mod Targets
 pub mod Counting
 pub mod Requests
+pub mod RequestsLeft
+pub mod SoundAgents
 pub mod Faults
 pub mod Calls
 pub mod Histories

@@ -5,6 +5,8 @@ ghost use Rattle.sbp_target.specs.Histories.Layers.{LayerLaw};
 ghost use Rattle.sbp_target.specs.Histories.Sides.{SideLaw};
 ghost use Rattle.sbp_target.specs.Histories.Transactions.{UnderWayLaw};
 ghost use Rattle.sbp_target.specs.Requests.{FollowsAreCounted};
+ghost use Rattle.sbp_target.specs.RequestsLeft.{DeliveriesAreCounted};
+ghost use Rattle.sbp_target.specs.SoundAgents.{CallsKeepSound};
 
 /// Each call of a target changes its transaction layer by a list of the layer's own steps: one judging,
 /// expiry or sight of a generation first, then at most one answer, then requests; and the packets that it
@@ -71,7 +73,20 @@ pub fn first_row_has_its_rcode()
 /// What follows a step of an agent sends no more requests than the step asks for, those yet to be made
 /// for the agent and its doorbell mark counted: a main request that finds no label makes way for the write
 /// of the status block, and a read ahead that does not leave for the mark that it cleared.
-#[tactic(auto, using(crate::proofs::Requests::follows_are_counted))]
+#[tactic(auto, using(crate::proofs::Requests::Follows::follows_are_counted))]
 pub fn steps_ask_for_what_follows()
     ensures { FollowsAreCounted }
+{}
+
+/// In each delivery the number of requests that a target is yet to send falls by those that it sends. A
+/// write of a register raises it by what it brings, and the turn of an ORB by its share. A place that has
+/// an ORB to work works it until it ends or is cut.
+pub fn deliveries_ask_for_what_is_left()
+    ensures { DeliveriesAreCounted }
+{}
+
+/// What always holds of an agent, by its phase, holds of the agents of a new target, and behind each of
+/// its calls: of a delivery, where a run told what a run of its command may tell.
+pub fn calls_keep_agents_sound()
+    ensures { CallsKeepSound }
 {}

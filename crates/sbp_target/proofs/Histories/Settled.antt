@@ -232,7 +232,7 @@ inside offset e = grind (arith, nat_tests)
 eighth : (n : ℕ) → n < 256 → n / 0x20 < 8
 eighth n h = omega arith
 
-small_place : (offset : ℕ) (found : AgentRegister) → register_at offset ≡ Some found → found.place < 8
+pub small_place : (offset : ℕ) (found : AgentRegister) → register_at offset ≡ Some found → found.place < 8
 unfolding register_at
 small_place offset found e = by (nat_lt offset agents_start || nat_le (agents_start + 8 * 0x20) offset) refl e
   where

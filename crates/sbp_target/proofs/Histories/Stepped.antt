@@ -1,12 +1,10 @@
 -- What a step of an agent asks for, and what it has under way behind it.
-use Rattle.std.proofs.Common.{arith, ◌≡◌, ◌≢◌, refl, sym, ap, ◌∙◌, subst, ℕ, ◌+◌, ◌-◌, ◌*◌, ◌^◌, ◌==◌, ◌≤◌, ◌&&◌, ◌||◌, not, is_some, nat_lt, Bool, true, false, cond, List, [], ◌∷◌, ◌++◌, length, take, drop, min, Option, Some, None, Result, Ok, Err}
-use Rattle.std.proofs.lemmas.Bool.Decides.{nat_tests}
+use Rattle.std.proofs.Common.{arith, ◌≡◌, refl, sym, ap, ◌∙◌, subst, ℕ, ◌+◌, ◌-◌, ◌*◌, ◌==◌, ◌≤◌, ◌&&◌, ◌||◌, not, is_some, nat_lt, Bool, true, false, cond, List, [], ◌∷◌, ◌++◌, length, take, drop, min, Option, Some, None, Result, Ok, Err}
 use Rattle.std.proofs.lemmas.Grind.{common_steps}
 use Rattle.orb_layout.specs.declared.ask.Ask.{Ask}
 use Rattle.orb_layout.specs.declared.ask.Ask.TheVariants.{Read, Write, Nothing}
 use Rattle.orb_layout.specs.declared.ask.FailCause.{FailCause}
 use Rattle.orb_layout.specs.declared.ask.FailCause.TheVariants as causes
-use Rattle.orb_layout.specs.declared.command.CommandOrb.{CommandOrb}
 use Rattle.orb_layout.specs.declared.pointer.OrbPointer.{OrbPointer}
 use Rattle.orb_layout.specs.declared.pointer.OrbPointer.TheVariants.{Null, At}
 use Rattle.orb_layout.specs.declared.status.StatusBlock.{StatusBlock}
@@ -36,7 +34,8 @@ use Rattle.command_agent.specs.declared.step.Move.{Move}
 use Rattle.command_agent.specs.declared.step.Move.TheVariants as moves
 use Rattle.command_agent.specs.declared.step.Which.TheVariants.{Main, Ahead}
 use Rattle.command_agent.specs.Machine.{Machine, is_sent, is_ahead, plan_of, chunk_of, cut_to, limit_of}
-use Rattle.command_agent.specs.Checks.{verdict, refusal, death_by, reads_table}
+use Rattle.command_agent.specs.Checks.{IsPassed, death_by, reads_table, verdict}
+use Rattle.command_agent.proofs.Passing.{passes}
 use Rattle.command_agent.specs.Steps.{quiet, asks, sent, told_or, end_step, fail_step, dead_step, turned, fetch_step, reread_step, turn_step, wait_step, follow_step, status_written, next_read, orb_read, elements_read, table_read, data_step, data_grown, data_read, answer_chunk, answer_step, chunk_written, advanced, with_outcome, ran_as, run_step, judged, judge_step, unread_buffer, checked, check_step, ahead_of, with_ahead, served, ahead_lost, ahead_read, ahead_step, reply_step, main_lost, lost_step, block_of}
 use Rattle.command_agent.proofs.Limits.{limit_few}
 
@@ -248,39 +247,6 @@ behind_judge : (m : Machine) (place : ℕ) (plain : PlainDisk) (told : Told) →
 behind_judge m place plain told n l = behind_judged m told (need_of m.orb.cdb (plan_of m) plain place) n l
 
 -- ---- the checks of an ORB
-record Passed (orb : CommandOrb) : Type 0 where
-  limit : orb.max_payload ≤ 9
-  few : orb.has_table ≡ true → orb.data_size ≤ 64
-
-refused_not : (a b c d e : Bool) (s t u v w : Option StatusKind) → s ≢ None → t ≢ None → u ≢ None → v ≢ None → w ≢ None → cond a s (cond b t (cond c u (cond d v (cond e w None)))) ≡ None → (a ≡ false) × (b ≡ false) × (c ≡ false) × (d ≡ false)
-refused_not true b c d e s t u v w p q r x y h = absurd (p h)
-refused_not false true c d e s t u v w p q r x y h = absurd (q h)
-refused_not false false true d e s t u v w p q r x y h = absurd (r h)
-refused_not false false false true e s t u v w p q r x y h = absurd (x h)
-refused_not false false false false e s t u v w p q r x y h = (refl, refl, refl, refl)
-
-some_kind : (kind : StatusKind) → Some kind ≢ None
-some_kind kind e = cc
-
-passes_fields : (orb : CommandOrb) → refusal orb ≡ None → Passed orb
-unfolding refusal
-passes_fields orb e =
-    let f = refused_not (nat_lt 2 orb.speed) (nat_lt (7 + orb.speed) orb.max_payload) (orb.has_table && not (orb.page_size == 0)) (orb.has_table && nat_lt 64 orb.data_size) (not orb.has_table && nat_lt (2 ^ 48) (orb.descriptor + orb.data_size)) _ _ _ _ _ (some_kind (kinds.Illegal 0x02)) (some_kind (kinds.Illegal 0xff)) (some_kind (kinds.Illegal 0x03)) (some_kind (kinds.Illegal 0xff)) (some_kind (kinds.Illegal 0xff)) e in
-    let a = f.0 in let b = f.1 in let d = f.3 in
-    record { limit = grind (arith, nat_tests); few = λ h. grind (arith, nat_tests) }
-
-verdict_not : (a b c : Bool) (s t u more : Option StatusKind) → s ≢ None → t ≢ None → u ≢ None → cond a s (cond b t (cond c u more)) ≡ None → more ≡ None
-verdict_not true b c s t u more p q r h = absurd (p h)
-verdict_not false true c s t u more p q r h = absurd (q h)
-verdict_not false false true s t u more p q r h = absurd (r h)
-verdict_not false false false s t u more p q r h = h
-
-passes : (orb : CommandOrb) (aborted : Bool) → verdict orb aborted ≡ None → Passed orb
-unfolding verdict
-passes orb aborted e =
-    passes_fields orb
-    (verdict_not (orb.format == 3) (not (orb.format == 0)) aborted _ _ _ (refusal orb) (some_kind kinds.Dummy) (some_kind (kinds.Illegal 0x01)) (some_kind kinds.Aborted) e)
-
 -- behind the checks the read ahead may follow
 record Checked (s : AgentStep × Machine) : Type 0 where
   behind : Behind false s
@@ -335,7 +301,7 @@ table_some : (a b : Bool) → (a && b) ≡ true → a ≡ true
 table_some true b e = refl
 table_some false b e = e
 
-reads_table_step : (m : Machine) → is_ahead m.ahead ≡ false → Passed m.orb → reads_table m.orb ≡ true → Checked (asks (Read m.orb.descriptor (8 * m.orb.data_size)), record m { phase = phases.ReadingTable })
+reads_table_step : (m : Machine) → is_ahead m.ahead ≡ false → IsPassed m.orb → reads_table m.orb ≡ true → Checked (asks (Read m.orb.descriptor (8 * m.orb.data_size)), record m { phase = phases.ReadingTable })
 reads_table_step m h p r = record {
   behind = asking false (record m { phase = phases.ReadingTable }) (Read m.orb.descriptor (8 * m.orb.data_size))
       (record { bare = λ e. absurd (on e); next = λ e. absurd (on (sym h ∙ e)); limit = λ e. p.limit })
