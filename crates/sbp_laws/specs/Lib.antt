@@ -33,6 +33,7 @@ pub mod SentRequests
 pub mod Unasked
 pub mod SentLaw
 pub mod Budget
+pub mod Completion
 pub mod Deliveries
 pub mod LineLaw
 pub mod ActionLaw

@@ -26,3 +26,4 @@ pub mod Agents
 pub mod Sessions
 pub mod Pointers
 pub mod Lists
+pub mod Counting

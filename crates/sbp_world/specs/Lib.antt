@@ -19,3 +19,4 @@ pub mod Agents
 pub mod Sessions
 pub mod Pointers
 pub mod Lists
+pub mod Counting

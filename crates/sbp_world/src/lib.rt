@@ -121,6 +121,7 @@ pub use of_lists::cut_lists_were_open;
 pub use of_lists::data_are_served_in_turn;
 pub use of_lists::data_are_written_in_sequence;
 pub use of_lists::data_that_were_served_were_got;
+pub use of_lists::deliveries_are_bounded;
 pub use of_lists::ended_lists_were_open;
 pub use of_lists::few_logins_are_given;
 pub use of_lists::good_ends_come_behind_the_last_chunk;

@@ -1,4 +1,5 @@
 //! The laws of the lists and the agents.
+ghost use Rattle.sbp_world.specs.Counting.Bounded.{CompletionLaw};
 ghost use Rattle.sbp_world.specs.Lists.AheadGots.{AheadAsGotLaw, AheadSinceLaw, WaitsAsGotLaw};
 ghost use Rattle.sbp_world.specs.Lists.Along.{AlongLaw};
 ghost use Rattle.sbp_world.specs.Lists.Bases.{BasesLaw};
@@ -782,4 +783,12 @@ pub fn no_orb_ends_as_dummy()
 #[tactic(auto, using(crate::proofs::Lists::IgnoredSlots::ignored_law))]
 pub fn ignored_statuses_name_no_waiting_orb()
     ensures { IgnoredLaw }
+{}
+
+/// In every run in which no initiator injected packets, of one initiator at least, deliveries are bounded:
+/// from a line on before which the run is lossless, over lines that deliver alone, in any order, the
+/// deliveries, with the packets that are in flight still, are no more than the budget before that line. So a
+/// `settle` there ends with nothing in flight, unless its budget is more than 10,000,000.
+pub fn deliveries_are_bounded()
+    ensures { CompletionLaw }
 {}

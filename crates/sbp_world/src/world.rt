@@ -6,7 +6,7 @@ ghost use Rattle.sbp_target.specs.Faults.{NoneFell};
 ghost use Rattle.sbp_world.specs.Lines.{Happens, IsEvent};
 ghost use Rattle.sbp_world.specs.Making.{new_world};
 ghost use Rattle.sbp_world.specs.Settling.{HasSettled};
-ghost use Rattle.sbp_world.specs.Wire.Keeping.{BeginsLawfully, KeepsLaws, SettlesLawfully};
+ghost use Rattle.sbp_world.specs.Wire.Keeping.{BeginsLawfully, KeepsLaws, SettlesLawfully, SettlesWhereItMay};
 ghost use Rattle.sbp_world.specs.Worlds.{scene};
 
 use crate::parts::Parts;
@@ -75,7 +75,8 @@ impl World {
         Ok(())
     }
 
-    /// Runs a `settle`; true exactly where nothing is in flight at the end. Its notes are inside the types
+    /// Runs a `settle`; true exactly where nothing is in flight at the end, and so behind each lossless run
+    /// in which nobody injected packets and whose budget is 10,000,000 at most. Its notes are inside the types
     /// of their fields.
     pub fn settle(&mut self, media: &mut Vec<Box<dyn Medium>>, line: u32) -> Result<bool, NoMemory>
         requires media { length media.old.items ≡ length self.old.target.units }
@@ -84,6 +85,7 @@ impl World {
         ensures units { length self.new.target.units ≡ length self.old.target.units }
         ensures settles { IfOk result (λ settled. HasSettled settled (scene self.old (map disk media.old.items) (map media_faults media.old.items)) (scene self.new (map disk media.new.items) (map media_faults media.new.items))) }
         ensures lawful { OnOk result (SettlesLawfully line (scene self.old (map disk media.old.items) (map media_faults media.old.items)) (scene self.new (map disk media.new.items) (map media_faults media.new.items))) }
+        ensures done { IfOk result (λ settled. SettlesWhereItMay line settled (scene self.old (map disk media.old.items) (map media_faults media.old.items)) (scene self.new (map disk media.new.items) (map media_faults media.new.items))) }
         ensures typed { OnOk result (AllByRecursion IsTyped self.new.fresh) }
     {
         self.parts.clear();

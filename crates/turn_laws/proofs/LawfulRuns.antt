@@ -34,6 +34,7 @@ use Rattle.turn_laws.specs.Failing.{FailsByRows}
 use Rattle.turn_laws.specs.Failures.{FailsWhereDue}
 use Rattle.turn_laws.specs.Faults.{DiesBeforeFaults}
 use Rattle.turn_laws.specs.LawfulRuns.{IsLawfulRun, LawfulRunsLaw}
+use Rattle.sbp_world.proofs.Counting.CompletionRuns.{completion_law}
 use Rattle.turn_laws.specs.Once.{DiesOnce}
 use Rattle.turn_laws.specs.Operations.{OperationsHold, OperationsStand}
 use Rattle.turn_laws.specs.Silent.{EndsHeard}
@@ -179,6 +180,7 @@ module _ (line : ℕ) (run : Run) (is : IsRun run) (some : 0 < run.units) (most 
     statuses = record { each = finished_law.each line run is wild; taken = finished_law.taken line run is; once = once_taken_law.once line run is };
     in_turns = has_turns;
     action = has_action;
+    completes = λ one tame. completion_law line run is one some most size tame;
   }
 
 pub lawful_runs_law : LawfulRunsLaw

@@ -1,8 +1,9 @@
--- The laws of every run of the machine. Where no initiator injected a packet the run is lawful, whole and of everybody. Whatever anybody injected, its parts hold as they stand here: the once law and
+-- The laws of every run of the machine. Where no initiator injected a packet the run is lawful, whole and of everybody, and of one initiator at least it completes by a count. Whatever anybody injected, its parts hold as they stand here: the once law and
 -- the laws of lists of those that injected none, all others of everybody, but for what LawfulInTurns leaves out of those that did.
 use Rattle.std.specs.Prelude.{◌≡◌, ◌<◌, ◌≤◌, ℕ, length}
 use Rattle.std.specs.List.{AllByRecursion}
 use Rattle.sbp_laws.specs.ActionLaw.{ActionLaw}
+use Rattle.sbp_laws.specs.Completion.{CompletesByCount}
 use Rattle.sbp_laws.specs.Lawful.{FormAt, Lawful, injectors}
 use Rattle.sbp_laws.specs.OnceLaw.{OnceLaw}
 use Rattle.sbp_laws.specs.Turns.{EachMoment}
@@ -27,6 +28,7 @@ pub record IsLawfulRun (line : ℕ) (run : Run) : Type 0 where
   pub statuses : TakesStatuses (history_of line run)
   pub in_turns : LawfulInTurns run.start.disks (history_of line run)
   pub action : ActionLaw run.start.disks (journal_run line run).entries
+  pub completes : 0 < run.initiators → IsTame (history_of line run) → CompletesByCount (journal_run line run).entries
 
 -- Of every run of up to four initiators with one to four units and a medium for each, whose notes are inside their types as each line's are, and in which nobody injected or few logins were given.
 pub record LawfulRunsLaw : Type 0 where

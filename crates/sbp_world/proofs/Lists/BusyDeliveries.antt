@@ -38,7 +38,7 @@ module _ (w : WorldState) (g : Good w.target) (Given : Type 0) (F : ℕ → Mach
   starting : (layer : Layer Purpose) → Cutting F closed (M w g Given F closed layer) (first w g Given F closed layer)
   starting layer = (begins layer).cutting
 
-  waits_has : (place : ℕ) → place < 8 → (peer : ℕ) (label : LabelParts) (which : Which) → which_in (desk_at w.target place) peer label ≡ Some which → has_list (desk_at w.target place).agent.phase ≡ true
+  pub waits_has : (place : ℕ) → place < 8 → (peer : ℕ) (label : LabelParts) (which : Which) → which_in (desk_at w.target place) peer label ≡ Some which → has_list (desk_at w.target place).agent.phase ≡ true
   waits_has place b peer label Main e =
       let d = desk_at w.target place in
       sent_has d.agent.phase (main_of (is_that d.main peer label) (is_sent d.agent.phase) (is_that d.ahead peer label) (is_ahead d.agent.ahead) e)

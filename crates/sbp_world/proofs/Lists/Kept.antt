@@ -59,7 +59,7 @@ back_unlisted : (at : Option ℕ) (initiator : ℕ) (places : List (Option Holde
 back_unlisted None initiator places = λ p n f. refl
 back_unlisted (Some place) initiator places = taken_unlisted (place_in places place) place initiator places
 
-left_unlisted : (login : ℕ) (places : List (Option Holder)) → Unlisted places (left_step login places)
+pub left_unlisted : (login : ℕ) (places : List (Option Holder)) → Unlisted places (left_step login places)
 unfolding left_step
 left_unlisted login places = put_unlisted (position (has_login login) places) places None refl
 
@@ -75,7 +75,7 @@ managed_unlisted functions.UnitReset subject login initiator places = λ p n f. 
 managed_unlisted functions.TargetReset subject login initiator places = λ p n f. refl
 managed_unlisted functions.Other subject login initiator places = λ p n f. refl
 
-decided_unlisted : (status : ℕ) (word : FunctionWord) (subject login initiator : ℕ) (places : List (Option Holder)) → Unlisted places (decided_places status word subject login initiator places)
+pub decided_unlisted : (status : ℕ) (word : FunctionWord) (subject login initiator : ℕ) (places : List (Option Holder)) → Unlisted places (decided_places status word subject login initiator places)
 decided_unlisted status word subject login initiator places = by (status == 0)
   where
     by : (b : Bool) → Unlisted places (cond b (managed_places word subject login initiator places) places)

@@ -113,7 +113,7 @@ again_calm start generation past i same none =
 
 -- ---- what is known of the moments before what an initiator tells, and what is in hand behind it
 
-tame_quiet : (note : Note) → is_tame note ≡ true → is_quiet note ≡ true
+pub tame_quiet : (note : Note) → is_tame note ≡ true → is_quiet note ≡ true
 tame_quiet (notes.Begin initiators ready) e = untrue e
 tame_quiet (notes.Sent serial generation from to bytes) e = untrue e
 tame_quiet (notes.Got serial) e = untrue e

@@ -21,7 +21,7 @@ module _ (Still : List Moment → Type 0) (closed : (later past : List Moment) �
   next_still before now (next_line front q note line event is) still =
       closed (said note ∷ asked line event ∷ []) before (closed (map said front) (said note ∷ asked line event ∷ before) (subst Still (sym is) still))
 
-  turn_still : (past : List Moment) (s : Scene) (later : List Moment) (t : Scene) → Turn past s later t → Still (hist later t.world) → Still (hist past s.world)
+  pub turn_still : (past : List Moment) (s : Scene) (later : List Moment) (t : Scene) → Turn past s later t → Still (hist later t.world) → Still (hist past s.world)
   turn_still past s later t turn still = next_still (hist past s.world) (hist later t.world) (turn_next past s later t turn) still
 
   module _ (wild : ℕ → Bool) (units ready : ℕ) (start : List Disk) (Q U P : List Moment → WorldState → Type 0) where

@@ -24,7 +24,7 @@ use Rattle.sbp_world.proofs.Lists.Lines.{acts, hears, injects, loses, own_lapses
 use Rattle.sbp_world.proofs.Lists.PlaceOwners.{IsSeatedWell}
 use Rattle.sbp_world.proofs.Lists.Stays.{stays_end}
 use Rattle.sbp_world.proofs.Lists.TurnAway.{acts_none, end_none, hears_none, injects_none, lapses_none, loses_none, refuses_none, resets_none, same_none, sight_none}
-use Rattle.sbp_world.proofs.Lists.TurnCalls.{Comes, TurnCalls, TurnFrom, calls, is_sight, keyed as key_set, leaves}
+use Rattle.sbp_world.proofs.Lists.TurnCalls.{IsCalled, Comes, TurnCalls, TurnFrom, calls, is_sight, keyed as key_set, leaves}
 use Rattle.sbp_world.proofs.Lists.Turned.{IsOne}
 use Rattle.sbp_world.proofs.Lists.Turns.{First, late_it, seen_it, tick_it}
 use Rattle.sbp_world.proofs.Lists.Walks.{Standing, Step, Turn, by_delivery, by_end, by_line, by_start}
@@ -83,13 +83,13 @@ module _ (wild : ℕ → Bool) (past : List Moment) where
       abbrev u : WorldState
       u = with_note (judged_note serial x.0) (marked serial again (with_target x.1.node w))
 
-      record Marks : Type 0 where
-        places : u.places ≡ w.places
-        generations : u.generations ≡ w.generations
-        fresh : u.fresh ≡ judged_note serial x.0 ∷ w.fresh
-        target : u.target ≡ x.1.node
+      pub record Marks : Type 0 where
+        pub places : u.places ≡ w.places
+        pub generations : u.generations ≡ w.generations
+        pub fresh : u.fresh ≡ judged_note serial x.0 ∷ w.fresh
+        pub target : u.target ≡ x.1.node
 
-      marks : Marks
+      pub marks : Marks
       marks = by (again || not (is_flying serial w.store.kept))
         where
           Of : Bool → Type 0
@@ -109,7 +109,7 @@ module _ (wild : ℕ → Bool) (past : List Moment) where
           let found = judging_step w.target.layer sent.generation sent.bytes in
           ap (λ f. judged_note serial (received_as run sent.bytes f (with_layer found.1 (whole_of w.target s.media))).0) e
 
-      came_by : (other : Option Told) (disks : List Disk) (generation : ℕ) (bytes : List ℕ) → receives run s.media.disks sent.generation sent.bytes ≡ receives other disks generation bytes → Comes w (judged_note serial x.0) generation bytes
+      pub came_by : (other : Option Told) (disks : List Disk) (generation : ℕ) (bytes : List ℕ) → receives run s.media.disks sent.generation sent.bytes ≡ receives other disks generation bytes → Comes w (judged_note serial x.0) generation bytes
       came_by other disks generation bytes e =
           let same_generation : sent.generation ≡ generation = cc in
           let same_bytes : sent.bytes ≡ bytes = cc in
@@ -123,24 +123,26 @@ module _ (wild : ℕ → Bool) (past : List Moment) where
             got = λ packet label purpose f. heard_got packet label purpose (ap (λ g. (judging_step w.target.layer g sent.bytes).0) same_generation ∙ (ap (λ b. (judging_step w.target.layer generation b).0) same_bytes ∙ f));
           }
 
+      unfoldable pub delivery_is_called : IsCalled past w (handed_out 0 0 x.1.outbox u)
+      delivery_is_called = record {
+        good = f.good;
+        call = receives run s.media.disks sent.generation sent.bytes;
+        u = u;
+        first = judged_note serial x.0;
+        starts = first_of serial x.0;
+        fresh = ap (λ ns. map said ns ++ past) marks.fresh;
+        places = marks.places;
+        bus = λ e. marks.generations;
+        target = marks.target;
+        layer = (judging_step w.target.layer sent.generation sent.bytes).1;
+        called = delivery_called w f.good ⊥ (λ p m. IsFull m) full_closed f.seats sent run s.media (λ p label place found b login served which e given. absurd given);
+        others = others;
+        comes = came_by;
+        is = refl;
+      }
+
       delivery_calls : T w (handed_out 0 0 x.1.outbox u)
-      delivery_calls =
-          by_call w (handed_out 0 0 x.1.outbox u) (receives run s.media.disks sent.generation sent.bytes) (scene x.1.node x.1.outbox) refl
-          (record {
-            good = f.good;
-            u = u;
-            first = judged_note serial x.0;
-            starts = first_of serial x.0;
-            fresh = ap (λ ns. map said ns ++ past) marks.fresh;
-            places = marks.places;
-            bus = λ e. marks.generations;
-            target = marks.target;
-            layer = (judging_step w.target.layer sent.generation sent.bytes).1;
-            called = delivery_called w f.good ⊥ (λ p m. IsFull m) full_closed f.seats sent run s.media (λ p label place found b login served which e given. absurd given);
-            others = others;
-            comes = came_by;
-            is = refl;
-          })
+      delivery_calls = calls delivery_is_called
 
     -- a transaction of the target times out
     module _ (line serial : ℕ) (request : Request) (zero_node : request.node ≡ 0) where
@@ -348,7 +350,7 @@ line_calls wild past line s (events.Inject i bytes) told o q m number rows law f
 line_calls wild past line s (events.Key unit key) told o q m number rows law f = key_calls wild (asked line (events.Key unit key) ∷ hist past s.world) (without_notes s.world) line unit key
 
 -- ---- each turn
-begun_seated : (w : WorldState) → IsSeatedWell w → IsSeatedWell (without_notes w)
+pub begun_seated : (w : WorldState) → IsSeatedWell w → IsSeatedWell (without_notes w)
 begun_seated w f = record { good = f.good; seats = λ p login e. let k = f.seats p login e in record { holder_is = k.holder_is; there = k.there; id_is = k.id_is } }
 
 pub turn_calls : (wild : ℕ → Bool) (past : List Moment) (s : Scene) (later : List Moment) (t : Scene) → Turn past s later t → IsSeatedWell s.world → AreNumbered (hist past s.world) s.world → ((i : ℕ) → i < length s.world.initiators → AreRows (hist past s.world) i (initiator_at s.world i).lists.slots) → OrderLaw wild (hist past s.world) → TurnFrom wild past s.world later t.world
@@ -369,7 +371,7 @@ turn_calls wild _ _ _ _ (by_delivery past s one m) f number rows law = record { 
 turn_calls wild _ _ _ _ (by_end past s done) f number rows law = record { w = s.world; target = refl; places = refl; bus = refl; store = refl; begins = inl refl; turn = leaves (stays_end wild past done s.world) (end_none past done s.world) }
 
 -- the places of the target by what is known of a place
-seated_of : (wild : ℕ → Bool) (units ready : ℕ) → 0 < units → (start : List Disk) (past : List Moment) (lines : ℕ) (w : WorldState) → Standing wild units ready start past lines w → IsSeatedWell w
+pub seated_of : (wild : ℕ → Bool) (units ready : ℕ) → 0 < units → (start : List Disk) (past : List Moment) (lines : ℕ) (w : WorldState) → Standing wild units ready start past lines w → IsSeatedWell w
 seated_of wild units ready has start past lines w s = record {
   good = good_of units ready s.reached.holds.calls w.target has s.reached.holds.made;
   seats = λ p login e. let k = s.reached.site.held.held p login e in record { holder_is = k.holder; there = k.there; id_is = k.login_is };

@@ -31,7 +31,7 @@ AreQuiet (packet ∷ packets) = IsQuiet packet.bytes × AreQuiet packets
 
 -- ---- responses
 
-response_access : (node : ℕ) (p : Packet) (rcode : ℕ) (given : List ℕ) → access_of (response_to node p rcode given) ≡ None
+pub response_access : (node : ℕ) (p : Packet) (rcode : ℕ) (given : List ℕ) → access_of (response_to node p rcode given) ≡ None
 response_access node (read_quadlet header offset) rcode given = refl
 response_access node (read_block header offset count) rcode given = refl
 response_access node (write_quadlet header offset value) rcode given = refl

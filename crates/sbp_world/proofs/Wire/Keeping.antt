@@ -1,9 +1,16 @@
 -- Each line of a world keeps the laws of the runs that it stands for.
-use Rattle.sbp_world.proofs.Words.Std.{◌∙◌, ap, subst, sym}
-use Rattle.sbp_world.proofs.Words.Wire.{Event}
+use Rattle.sbp_world.proofs.Words.Std.{◌∙◌, ap, arith, subst, sym, refl, ◌≤◌, ◌∷◌, ◌++◌, map, true, false}
+use Rattle.sbp_world.proofs.Words.Wire.{Event, Note, asked, end_note, said}
 use Rattle.sbp_world.proofs.Words.Target.{Disk}
-use Rattle.sbp_world.proofs.Words.World.{history_of, IsRun, Happens, new_world, AreEntries, Run, StandsFor, beginning, HasSettled, Settles, BeginsLawfully, HasLaws, IsLikeAScripts, KeepsLaws, SettlesLawfully, StandsLawfully, AreOpenLists, AreStates, Scene, WorldState, scene, without_notes}
+use Rattle.sbp_world.proofs.Words.World.{IsCalm, after_all, begun, entry, history_of, is_settled, with_entry, IsRun, Happens, new_world, AreEntries, Run, StandsFor, beginning, HasSettled, Settles, BeginsLawfully, HasLaws, IsLikeAScripts, KeepsLaws, SettlesLawfully, StandsLawfully, AreOpenLists, AreStates, Scene, WorldState, scene, without_notes}
 use Rattle.std.specs.Prelude.{◌≡◌, ℕ, Bool, List, []}
+use Rattle.sbp_journal.specs.declared.event.Event.TheVariants as events
+use Rattle.sbp_laws.specs.Budget.{Lossless, budget, most_deliveries}
+use Rattle.sbp_laws.specs.Completion.{EndsSettled}
+use Rattle.sbp_world.specs.Lists.OwnLogins.{IsTame}
+use Rattle.sbp_world.specs.Wire.Keeping.{MaySettle, SettlesWhereItMay}
+use Rattle.sbp_world.proofs.Counting.CompletionRuns.{completion_law, entries_same}
+use Rattle.sbp_world.proofs.Lists.JoinLaws.{lines_same, moments_same}
 use Rattle.sbp_world.proofs.Lists.ListLaws.{list_laws}
 use Rattle.sbp_world.proofs.Lists.Executes.{due_runs_law}
 use Rattle.sbp_world.proofs.Lists.GrantRuns.{few_logins_law}
@@ -23,6 +30,7 @@ laws_of run are first is =
       due = λ some most. due_runs_law.after_lines first run bounds some most (sym is.media);
       few_logins = λ some most. few_logins_law.few first run bounds some most (sym is.media);
       lists = λ some most. list_laws first run bounds some most (sym is.media);
+      completes = λ one some most. completion_law first run bounds one some most (sym is.media);
     }
 
 -- the scene that stands for a run is the one behind its lines
@@ -53,3 +61,23 @@ step_keeps line event w inside disks faults new e h = keeps_laws line event (sce
 
 pub settle_keeps : (done : Bool) (line : ℕ) (w inside cleared : WorldState) (disks : List Disk) (faults : List ℕ) (new : Scene) → inside ≡ w → cleared ≡ without_notes inside → Settles done (scene cleared disks faults) new → SettlesLawfully line (scene w disks faults) new
 settle_keeps done line w inside cleared disks faults new e f h = settles_lawfully line done (scene w disks faults) new (subst (λ x. Settles done (scene x disks faults) new) (f ∙ ap without_notes e) h)
+
+-- ---- what a `settle` answers
+ends_done : (done : Bool) (told : List Note) → EndsSettled (end_note done ∷ told) → done ≡ true
+ends_done true told e = refl
+ends_done false told e = absurd e
+
+pub settles_where_it_may : (line : ℕ) (done : Bool) (old new : Scene) → HasSettled done old new → SettlesWhereItMay line done old new
+settles_where_it_may line done old new h run first stands may =
+    let e = entry line events.Settle h.told new.world.fresh in
+    let now = with_entry run e in
+    let like : IsLikeAScripts now = record { few = may.like.few; media = may.like.media; count = (let count = may.count in omega (arith, count)); lines = (tt, lines_same run (e ∷ run.entries) run.entries may.like.lines) } in
+    let tame : IsTame (history_of first now) = λ i. subst (λ ms. IsCalm (map said new.world.fresh ++ asked line events.Settle ∷ ms) i) (sym (moments_same first run (e ∷ run.entries) run.entries)) (may.tame i) in
+    let laws = laws_of now (settles run line done old new stands h).lines first like in
+    let before = sym (entries_same first run run.entries (e ∷ run.entries)) ∙ bus_law.tie first run in
+    let ends = (laws.completes may.some may.unit may.units tame).settles.0 (subst Lossless (sym before) may.lossless) (subst (λ ms. budget ms ≤ most_deliveries) (sym before) may.small) in
+    let t = after_all h.told (begun old) in
+    h.done ∙ ap (λ (s : Scene). is_settled s.world) h.is ∙ ends_done (is_settled t.world) t.world.fresh (subst EndsSettled (ap (λ (s : Scene). s.world.fresh) h.is) ends)
+
+pub settle_settles_where : (done : Bool) (line : ℕ) (w inside cleared : WorldState) (disks : List Disk) (faults : List ℕ) (new : Scene) → inside ≡ w → cleared ≡ without_notes inside → Settles done (scene cleared disks faults) new → SettlesWhereItMay line done (scene w disks faults) new
+settle_settles_where done line w inside cleared disks faults new e f h = settles_where_it_may line done (scene w disks faults) new (subst (λ x. Settles done (scene x disks faults) new) (f ∙ ap without_notes e) h)
