@@ -23,6 +23,7 @@ use Rattle.sbp_command.specs.TaskEnds.{TaskEnds}
 use Rattle.script_runner.specs.Events.{events_of, journal, numbered_from}
 use Rattle.script_runner.specs.Drilling.{Drilled}
 use Rattle.journal_text.proofs.Feeds.{trace_of_text}
+use Rattle.sbp_command.proofs.Completing.{serves}
 use Rattle.sbp_command.proofs.Forms.{has_form}
 use Rattle.sbp_command.proofs.Wires.{has_run}
 
@@ -94,7 +95,7 @@ apart words a b h e f =
     absurd (cc never)
 
 pub serves_run : (words : List (List ℕ)) (status : CallStatus) (before now : Outside) → words ≡ codes "run" ∷ [] → RunEnds status before now → Serves words status before now
-serves_run words status before now e r = record {
+serves_run words status before now e r = serves (record {
   run = λ h. r;
   drill = λ seed count h. other_words words (codes "run") seed count e h;
   decode = λ h. apart words (codes "run") (codes "decode") refl e h;
@@ -102,10 +103,10 @@ serves_run words status before now e r = record {
   tasks = λ h. apart words (codes "run") (codes "tasks") refl e h;
   queue = λ h. apart words (codes "run") (codes "queue") refl e h;
   others = λ run drill decode rom tasks queue. absurd (run e);
-}
+})
 
 pub serves_decode : (words : List (List ℕ)) (status : CallStatus) (before now : Outside) → words ≡ codes "decode" ∷ [] → ListingEnds status before now → Serves words status before now
-serves_decode words status before now e r = record {
+serves_decode words status before now e r = serves (record {
   run = λ h. apart words (codes "decode") (codes "run") refl e h;
   drill = λ seed count h. other_words words (codes "decode") seed count e h;
   decode = λ h. r;
@@ -113,10 +114,10 @@ serves_decode words status before now e r = record {
   tasks = λ h. apart words (codes "decode") (codes "tasks") refl e h;
   queue = λ h. apart words (codes "decode") (codes "queue") refl e h;
   others = λ run drill decode rom tasks queue. absurd (decode e);
-}
+})
 
 pub serves_rom : (words : List (List ℕ)) (status : CallStatus) (before now : Outside) → words ≡ codes "rom" ∷ [] → RomEnds status before now → Serves words status before now
-serves_rom words status before now e r = record {
+serves_rom words status before now e r = serves (record {
   run = λ h. apart words (codes "rom") (codes "run") refl e h;
   drill = λ seed count h. other_words words (codes "rom") seed count e h;
   decode = λ h. apart words (codes "rom") (codes "decode") refl e h;
@@ -124,10 +125,10 @@ serves_rom words status before now e r = record {
   tasks = λ h. apart words (codes "rom") (codes "tasks") refl e h;
   queue = λ h. apart words (codes "rom") (codes "queue") refl e h;
   others = λ run drill decode rom tasks queue. absurd (rom e);
-}
+})
 
 pub serves_tasks : (words : List (List ℕ)) (status : CallStatus) (before now : Outside) → words ≡ codes "tasks" ∷ [] → TaskEnds status before now → Serves words status before now
-serves_tasks words status before now e r = record {
+serves_tasks words status before now e r = serves (record {
   run = λ h. apart words (codes "tasks") (codes "run") refl e h;
   drill = λ seed count h. other_words words (codes "tasks") seed count e h;
   decode = λ h. apart words (codes "tasks") (codes "decode") refl e h;
@@ -135,10 +136,10 @@ serves_tasks words status before now e r = record {
   tasks = λ h. r;
   queue = λ h. apart words (codes "tasks") (codes "queue") refl e h;
   others = λ run drill decode rom tasks queue. absurd (tasks e);
-}
+})
 
 pub serves_queue : (words : List (List ℕ)) (status : CallStatus) (before now : Outside) → words ≡ codes "queue" ∷ [] → QueueEnds status before now → Serves words status before now
-serves_queue words status before now e r = record {
+serves_queue words status before now e r = serves (record {
   run = λ h. apart words (codes "queue") (codes "run") refl e h;
   drill = λ seed count h. other_words words (codes "queue") seed count e h;
   decode = λ h. apart words (codes "queue") (codes "decode") refl e h;
@@ -146,10 +147,10 @@ serves_queue words status before now e r = record {
   tasks = λ h. apart words (codes "queue") (codes "tasks") refl e h;
   queue = λ h. r;
   others = λ run drill decode rom tasks queue. absurd (queue e);
-}
+})
 
 pub serves_drill : (words : List (List ℕ)) (seed count : ℕ) (status : CallStatus) (before now : Outside) → IsDrill words seed count → DrillEnds seed count status before now → Serves words status before now
-serves_drill words seed count status before now d r = record {
+serves_drill words seed count status before now d r = serves (record {
   run = λ h. other_words words (codes "run") seed count h d;
   drill = λ other more h. same_drill words seed count other more status before now d h r;
   decode = λ h. other_words words (codes "decode") seed count h d;
@@ -157,10 +158,10 @@ serves_drill words seed count status before now d r = record {
   tasks = λ h. other_words words (codes "tasks") seed count h d;
   queue = λ h. other_words words (codes "queue") seed count h d;
   others = λ run drill decode rom tasks queue. absurd (drill seed count d);
-}
+})
 
 pub serves_usage : (words : List (List ℕ)) (status : CallStatus) (before now : Outside) → ¬ (words ≡ codes "run" ∷ []) → ¬ (words ≡ codes "decode" ∷ []) → ¬ (words ≡ codes "rom" ∷ []) → ¬ (words ≡ codes "tasks" ∷ []) → ¬ (words ≡ codes "queue" ∷ []) → ((seed count : ℕ) → ¬ IsDrill words seed count) → UsageEnds status before now → Serves words status before now
-serves_usage words status before now run decode rom tasks queue drill r = record {
+serves_usage words status before now run decode rom tasks queue drill r = serves (record {
   run = λ h. absurd (run h);
   drill = λ seed count h. absurd (drill seed count h);
   decode = λ h. absurd (decode h);
@@ -168,4 +169,4 @@ serves_usage words status before now run decode rom tasks queue drill r = record
   tasks = λ h. absurd (tasks h);
   queue = λ h. absurd (queue h);
   others = λ a b c d e f. r;
-}
+})

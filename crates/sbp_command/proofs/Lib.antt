@@ -1,6 +1,7 @@
 mod Wires
 mod Scripts
 mod Endings
+mod Completing
 mod Drilling
 mod Listings
 mod Roms
