@@ -70,6 +70,7 @@ impl Seen {
 
     /// Records a request as the last one of its source and label, where it is not crowded.
     #[tactic(auto, using(crate::proofs::Requests::least_of_request, crate::proofs::Requests::most_of_request))]
+    #[inline(always)]
     pub(crate) fn remember_if_room(&mut self, source: NodeId, bytes: &[u8], rcode: u8)
         requires { IsRequest bytes.now }
         ensures { self.new ≡ remember_step self.old source bytes.now rcode }

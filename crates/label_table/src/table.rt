@@ -53,6 +53,7 @@ impl Labels {
     /// free one whose last request in this generation differs from it in its bytes. Where there is
     /// none the bytes and the table stay.
     #[tactic(auto, unfolding(crate::specs::Table::begin_step), using(crate::proofs::Requests::least_of_request, crate::proofs::Requests::most_of_request))]
+    #[inline(always)]
     pub fn begin(&mut self, bytes: &mut [u8]) -> Result<Label, NoLabel>
         requires request { IsRequest bytes.old }
         requires count { self.old.calls < 2 ^ 56 }

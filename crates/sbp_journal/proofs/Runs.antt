@@ -21,13 +21,13 @@ front_all byte (x ∷ xs) ys e =
     rw parts.0 (omega (arith, ind))
 
 -- a block of such bytes is at the front of the others
-pub block_more : (byte at : ℕ) (bytes : List ℕ) → 64 ≤ length (drop at bytes) → list_all (λ other. other == byte) (take 64 (drop at bytes)) ≡ true → at + front byte (drop at bytes) ≡ front byte bytes → (at + 64) + front byte (drop (at + 64) bytes) ≡ front byte bytes
+pub block_more : (byte at : ℕ) (bytes : List ℕ) → 256 ≤ length (drop at bytes) → list_all (λ other. other == byte) (take 256 (drop at bytes)) ≡ true → at + front byte (drop at bytes) ≡ front byte bytes → (at + 256) + front byte (drop (at + 256) bytes) ≡ front byte bytes
 block_more byte at bytes room e h =
     let behind = drop at bytes in
-    let size = length-take-le 64 behind room in
-    let split = front_all byte (take 64 behind) (drop 64 behind) e in
-    let whole = ap (front byte) (take-append-drop 64 behind) in
-    let rest = ap (front byte) (drop-drop 64 at bytes) in
+    let size = length-take-le 256 behind room in
+    let split = front_all byte (take 256 behind) (drop 256 behind) e in
+    let whole = ap (front byte) (take-append-drop 256 behind) in
+    let rest = ap (front byte) (drop-drop 256 at bytes) in
     omega (arith, size, split, whole, rest, h)
 
 -- the runs of `byte` and then some bytes: its own run, and the runs of what stands behind it

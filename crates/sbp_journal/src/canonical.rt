@@ -11,7 +11,7 @@ use std::alloc::Global;
 const LONG: usize = 4;
 
 /// How many equal bytes are counted in one step.
-const BLOCK: usize = 64;
+const BLOCK: usize = 256;
 
 /// Bytes in the canonical form: digits, with `HH*N` for N equal bytes. There is one byte at least.
 pub(crate) fn canonical_text(alloc: Global, bytes: &[u8]) -> Result<Bytes, NoMemory>
@@ -64,7 +64,7 @@ fn run_length(byte: u8, bytes: &[u8]) -> usize
 
 /// Whether a block of bytes that equal `byte` is at the front.
 fn begins_block(byte: u8, bytes: &[u8]) -> bool
-    ensures { IsTrue result → (64 ≤ length bytes.now) × IsTrue (list_all (λ other. other == byte) (take 64 bytes.now)) }
+    ensures { IsTrue result → (256 ≤ length bytes.now) × IsTrue (list_all (λ other. other == byte) (take 256 bytes.now)) }
 {
     BLOCK <= bytes.len() && are_all(byte, &bytes[..BLOCK])
 }

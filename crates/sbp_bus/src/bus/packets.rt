@@ -75,6 +75,7 @@ impl Bus {
     }
 
     /// A packet that was in flight is delivered now. One that comes once more stays as it is.
+    #[inline(always)]
     fn mark(&mut self, serial: u64, again: bool) -> Result<(), NoMemory>
         ensures step { OnOk result (self.new ≡ marked serial again self.old) }
         ensures known { self.new.generations ≡ self.old.generations }
@@ -92,6 +93,7 @@ impl Bus {
     /// A packet came to its node, which judged it so; it is delivered from then on, but stays as it is
     /// where it came once more. Want of memory is answered too where the store counts no further call.
     #[tactic(auto, unfolding(crate::specs::Packets::judged_as))]
+    #[inline(always)]
     pub fn judge(&mut self, serial: u64, again: bool, judged: Judged) -> Result<(), NoMemory>
         ensures step { OnOk result (self.new ≡ judged_as serial again judged self.old) }
         ensures known { self.new.generations ≡ self.old.generations }

@@ -109,6 +109,7 @@ impl Bus {
 
     /// Sends a packet that a node hands out. One to an ID that no node has goes nowhere.
     #[tactic(auto, unfolding(crate::specs::Sending::sent))]
+    #[inline(always)]
     fn send(&mut self, from: u8, packet: Outgoing) -> Result<(), NoMemory>
         requires { from < length self.old.generations.seen }
         ensures sent { OnOk result (self.new ≡ sent from packet self.old) }
@@ -125,6 +126,7 @@ impl Bus {
     /// with the generation that the node knows, and a request that was not injected withdraws those of the
     /// transaction before it under its label. Want of memory is answered too where the store counts no
     /// further call.
+    #[inline(always)]
     pub fn send_all(&mut self, from: u8, outbox: &mut Outbox) -> Result<(), NoMemory>
         requires { from < length self.old.generations.seen }
         ensures step { OnOk result (self.new ≡ sent_all from outbox.old.packets self.old) }

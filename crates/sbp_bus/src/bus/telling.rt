@@ -98,6 +98,7 @@ impl Bus {
     }
 
     /// A note of an initiator; where it says that an ORB was appended, this counts so much.
+    #[inline(always)]
     fn tell_own(&mut self, weight: u64, note: Note) -> Result<(), NoMemory>
         ensures step { OnOk result (self.new ≡ told_own weight note self.old) }
         ensures known { self.new.generations ≡ self.old.generations }
@@ -221,6 +222,7 @@ impl Bus {
 
     /// Makes the note of what a node tells; an ORB that it prepares counts so much in the budget, and one
     /// that it names has this ticket.
+    #[inline(always)]
     pub fn tell_side(
         &mut self,
         weight: u64,

@@ -8,6 +8,7 @@ use sbp_journal::Outbox;
 
 impl Parts {
     /// Makes the notes of all that a node tells, in its order. An ORB that it prepares counts so much.
+    #[inline(always)]
     pub(super) fn tell_all(&mut self, weight: u64, outbox: &mut Outbox) -> Result<(), NoMemory>
         ensures told { OnOk result (self.new ≡ told_all weight outbox.old.sides self.old) }
         ensures packets { outbox.new.packets ≡ outbox.old.packets }
@@ -21,6 +22,7 @@ impl Parts {
     }
 
     /// What a node hands out in a call: it tells, then its packets leave.
+    #[inline(always)]
     pub(super) fn hand_out(
         &mut self,
         node: u8,

@@ -33,6 +33,7 @@ impl Parts {
 
     /// Makes the note of what a node tells; an ORB that it prepares counts so much in the budget.
     #[tactic(auto, using(crate::proofs::Buses::told_on))]
+    #[inline(always)]
     pub(super) fn tell(&mut self, weight: u64, side: Side) -> Result<(), NoMemory>
         ensures step { OnOk result (self.new ≡ told weight side self.old) }
         ensures bus { self.new.generations ≡ self.old.generations }

@@ -11,8 +11,8 @@ loop-at-preserved c =
     let inv = c.loop-at.invariant in
     let block = c.begins_block.ensures c.loop-at-test.true in
     let whole = take_all (length bytes - at) (drop at bytes) (simp length-drop (omega arith)) in
-    let room = subst (λ xs. 64 ≤ length xs) whole block.0 in
-    let all = subst (λ xs. list_all (λ other. other == c.args.byte) (take 64 xs) ≡ true) whole block.1 in
+    let room = subst (λ xs. 256 ≤ length xs) whole block.0 in
+    let all = subst (λ xs. list_all (λ other. other == c.args.byte) (take 256 xs) ≡ true) whole block.1 in
     let size = length-drop at bytes in
     record {
       within = omega (arith, room, size, inv.within);
