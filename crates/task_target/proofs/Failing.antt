@@ -169,10 +169,6 @@ silent_fetch phases.Fetching s plain told answer f = silent_read s plain told an
 silent_fetch phases.ReadingNext s plain told answer f = silent_next s (payload_of answer 8)
 silent_fetch _ s plain told answer f = refl
 
-silent_freed : (phase : FetchPhase) (s : TaskMachine) → IsSilent (freed phase s)
-silent_freed phases.Waiting s = refl
-silent_freed _ s = refl
-
 silent_written : (phase : FetchPhase) (s : TaskMachine) (place : ℕ) (failure : Option FailCause) → IsSilent (status_written phase s place failure)
 silent_written phases.Dead s place failure = refl
 silent_written phases.Fetching s place None = refl

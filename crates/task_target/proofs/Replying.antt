@@ -1,13 +1,11 @@
 -- What a run told is what the step of the agent tells.
-use Rattle.std.proofs.Common.{◌≡◌, ℕ, ap, subst, sym, refl, ◌∙◌, ◌≤◌, arith}
+use Rattle.std.proofs.Common.{◌≡◌, ℕ, ap, subst, refl, ◌∙◌}
 use Rattle.std.specs.List.{AllByRecursion}
-use Rattle.std.specs.Prelude.{◌<◌, IfSome, Bool, true, false, if◌then◌else◌, Option, Some, None, Result, Ok, Err, OnOk}
+use Rattle.std.specs.Prelude.{◌<◌, IfSome, true, false, Option, Some, None, Result, Ok, Err, OnOk}
 use Rattle.async_packet.specs.Labels.{LabelParts}
 use Rattle.login_table.specs.declared.login.Login.{Login}
 use Rattle.orb_layout.specs.Replies.{Answer}
-use Rattle.sbp_base.specs.Faults.{count_up}
-use Rattle.rbc_disk.specs.declared.command.Outcome.{Outcome}
-use Rattle.rbc_disk.specs.Runs.{Told, told_in, check_in, is_failure}
+use Rattle.rbc_disk.specs.Runs.{Told, told_in}
 use Rattle.command_agent.specs.Runs.{MayTell, count_after}
 use Rattle.unordered_agent.specs.declared.step.TaskStep.{TaskStep}
 use Rattle.unordered_agent.specs.Machine.{TaskMachine, task_at}
@@ -15,15 +13,6 @@ use Rattle.unordered_agent.specs.Steps.{place_of}
 use Rattle.task_target.specs.Nodes.{scene}
 use Rattle.task_target.specs.Following.{about, follow}
 use Rattle.task_target.specs.Replies.{Stage, stage, Whole, whole, Replies, RepliesTo, TellsBy, Advances, Silent, advance, advanced_with, agent_step, awaits, plain_in, replied, replied_by, replied_to, served_login}
-
--- the fault count of the medium does not fall as a command runs
-risen : (failed : Bool) (count : ℕ) → count ≤ (if failed then count_up count 1 else count)
-risen true count = omega arith
-risen false count = omega arith
-
-pub count_rises : (ran : Option Outcome) (count now : ℕ) → now ≡ count_after ran count → count ≤ now
-count_rises None count now e = omega arith
-count_rises (Some outcome) count now e = subst (λ n. count ≤ n) (sym e) (risen (is_failure (check_in outcome)) count)
 
 -- the answer in the place that the step is about is bytes
 abbrev pub AnswerBytes : ℕ → Stage → TaskMachine → Type 0

@@ -1,5 +1,4 @@
 pub mod Sending
-pub mod Giving
 pub mod Nodes
 pub mod Telling
 pub mod Following
@@ -7,4 +6,3 @@ pub mod Replies
 pub mod Serving
 pub mod Receiving
 pub mod Targets
-pub mod Counting

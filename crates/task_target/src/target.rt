@@ -1,5 +1,5 @@
 ghost use Rattle.std.specs.Prelude.{◌≡◌, ◌+◌, ◌^◌, ◌<◌, ◌≤◌, IfOk};
-ghost use Rattle.task_target.specs.Counting.{counted};
+ghost use Rattle.sbp_target.specs.Counting.{counted};
 ghost use Rattle.task_target.specs.Nodes.{scene};
 ghost use Rattle.task_target.specs.Receiving.{Receives};
 ghost use Rattle.task_target.specs.Replies.{whole};

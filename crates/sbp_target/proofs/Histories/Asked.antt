@@ -8,7 +8,7 @@ use Rattle.target_base.specs.declared.address.AgentRegister.{AgentRegister}
 use Rattle.target_base.specs.declared.address.Demand.{Demand}
 use Rattle.target_base.specs.declared.address.Demand.TheVariants as demands
 use Rattle.target_base.specs.Addresses as node
-use Rattle.target_base.specs.Addresses.{agents_start, agent_register, register_by, register_at, length_in, served, offset_in, Reached, row_of, reached, or_nowhere, demand_by, demand_of}
+use Rattle.target_base.specs.Addresses.{agents_start, agent_register, register_by, register_at, length_in, served, offset_in, Reached, row_of, or_nowhere, demand_by, demand_of}
 use Rattle.sbp_target.specs.Histories.Judgements.{asked_at}
 use Rattle.sbp_target.proofs.Histories.Rowed.{Wrote, WroteBlock, Read, ReadBlock, start_by, start_is, Served, asked_if, asked_by, served_is, starts_there, write_served, block_served, read_served, read_block_served}
 
@@ -101,11 +101,6 @@ behind access s =
     (ap (λ (start : Start). start_serves start access) (start_is o) ∙ s)
 
 -- and is one of 4 or 8 bytes
-both : (a b : Bool) → (a && b) ≡ true → (a ≡ true) × (b ≡ true)
-both true true e = (refl, refl)
-both true false e = cc
-both false b e = cc
-
 eight : (count : ℕ) → (count == 8) ≡ true → (count == 0) ≡ false
 eight count e = grind arith
 

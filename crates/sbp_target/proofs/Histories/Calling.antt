@@ -1,5 +1,5 @@
 -- Each call of a target leaves its agents and its management operation with what they wait for.
-use Rattle.std.proofs.Common.{arith, ◌≡◌, ◌≢◌, refl, sym, ap, ◌∙◌, subst, ℕ, zero, suc, ◌+◌, ◌<◌, ◌≤◌, nat_eq, Bool, true, false, cond, List, ◌∷◌, length, Option, Some, None}
+use Rattle.std.proofs.Common.{arith, ◌≡◌, ◌≢◌, refl, sym, ap, ◌∙◌, subst, ℕ, ◌<◌, nat_eq, true, false, List, ◌∷◌, length, Option, Some, None}
 use Rattle.async_packet.specs.Packet.{Packet}
 use Rattle.label_table.specs.Layer.{Layer, answering_step}
 use Rattle.label_table.specs.History as wire
@@ -18,7 +18,6 @@ use Rattle.sbp_target.specs.Sending.{answer_step}
 use Rattle.sbp_target.specs.Nodes.{NodeState, Scene, desk_at, login_at}
 use Rattle.sbp_target.specs.Agents.{disowned as given_up, cut_node, cut}
 use Rattle.sbp_target.specs.Serving.{answered}
-use Rattle.sbp_target.specs.Units.{is_cut, cut_at, cut_from}
 use Rattle.sbp_target.proofs.Histories.Stepped.{Fit}
 use Rattle.sbp_target.proofs.Histories.Seats.{Lives, split}
 use Rattle.sbp_target.proofs.Histories.Primitives.{Known}
@@ -143,16 +142,6 @@ cut_good q node b g =
 pub cut_scene : (cause : CutCause) (q : ℕ) (s : Scene) → q < 8 → Good s.node → Good (cut cause q s).node
 unfolding cut
 cut_scene cause q s b g = cut_good q s.node b g
-
-cut_if : (x : Bool) (cause : CutCause) (q : ℕ) (s : Scene) → q < 8 → Good s.node → Good (cond x (cut cause q s) s).node
-cut_if true cause q s b g = cut_scene cause q s b g
-cut_if false cause q s b g = g
-
-pub cuts_good : (left place : ℕ) (cause : CutCause) (unit : Option ℕ) (s : Scene) → place + left ≤ 8 → Good s.node → Good (cut_from left place cause unit s).node
-unfolding cut_from cut_at
-cuts_good zero place cause unit s b g = g
-cuts_good (suc left) place cause unit s b g =
-    cuts_good left (place + 1) cause unit (cut_at cause unit place s) (omega arith) (cut_if (is_cut unit (login_at s.node place)) cause place s (omega arith) g)
 
 -- ---- an answer
 pub answer_known : (layer : Layer Purpose) (lives : Lives) (p : Packet) (bytes : List ℕ) (rcode : ℕ) (given : List ℕ) → Known layer lives → Known (answering_step layer p bytes rcode given).1 lives

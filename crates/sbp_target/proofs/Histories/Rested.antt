@@ -38,7 +38,7 @@ use Rattle.sbp_target.proofs.Histories.Stepped.{is_bare, Fit, Behind, Over, main
 use Rattle.sbp_target.proofs.Histories.Seats.{behind_that, sent_same, Lives, IsFor, IsNot, OffOne, Seat, was as changed, split, seat_kept, hand_kept, main_ends, ahead_ends}
 use Rattle.sbp_target.proofs.Histories.Primitives.{Known, live_on, began_off, began_at, asks_known, none_known}
 use Rattle.sbp_target.proofs.Histories.Following.{node_of, IsServed, Fits, Place, Rest, Spares, spares_one, our_under, our_none, mid_step, desk_here, as_flags, follow_rest}
-use Rattle.sbp_target.proofs.Histories.Calling.{not_eight, Good, Beside, leave_out, take_in, rest_good, with_layer_good}
+use Rattle.sbp_target.proofs.Histories.Calling.{not_eight, Good, leave_out, take_in, rest_good, with_layer_good}
 
 -- ---- a transaction that is over
 pub record Ends (x : Sent) (old new : Lives) (layer : Layer Purpose) : Type 0 where
@@ -225,12 +225,6 @@ over_rest q m s before node request main o e p = record {
   fit = o.fit;
   place = record { lives = p.lives; mid = p.mid; agent_is = p.agent_is; main_is = p.main_is ∙ e ∙ ap (λ (x : Phase). is_sent x) (sym o.phase); ahead_is = p.ahead_is ∙ sym o.idle; frame = p.frame };
 }
-
-beside_units : (node : NodeState) (us : List UnitState) (request : Option Sent) → length us ≡ length node.units → Beside node request → Beside (record node { units = us }) request
-beside_units node us request e s = record { keys = s.keys ∙ sym e; source = s.source; table = s.table; below = s.below }
-
-served_units : (node : NodeState) (us : List UnitState) (q : ℕ) → length us ≡ length node.units → IsServed node q → IsServed (record node { units = us }) q
-served_units node us q e i = record { login = i.login; is = i.is; live = i.live; on_unit = subst (λ (k : ℕ). i.login.unit < k) (sym e) i.on_unit }
 
 -- ---- which transaction it was
 sent_unreset : (phase : Phase) → is_sent phase ≡ true → is_reset (state_in phase) ≡ false

@@ -1,5 +1,5 @@
 -- Which transactions are an agent's, and which the management operation's, as transactions begin, end, and are given up.
-use Rattle.std.proofs.Common.{arith, ◌≡◌, ◌≢◌, refl, sym, ap, ◌∙◌, subst, ℕ, ◌||◌, Bool, true, false, cond, Option, Some, None}
+use Rattle.std.proofs.Common.{arith, ◌≡◌, ◌≢◌, refl, sym, ap, ◌∙◌, subst, ℕ, ◌||◌, Bool, true, false, Option, Some, None}
 use Rattle.std.proofs.lemmas.Bool.Decides.{nat_tests}
 use Rattle.async_packet.specs.Labels.{LabelParts}
 use Rattle.label_table.specs.declared.reply.ReplyKind.{ReplyKind}
@@ -10,6 +10,7 @@ use Rattle.sbp_target.specs.declared.purpose.Sent.{Sent}
 use Rattle.sbp_target.specs.Sending.{is_sent_as}
 use Rattle.sbp_target.specs.Agents.{sent_to}
 use Rattle.sbp_target.specs.Desks.{is_that}
+use Rattle.sbp_target.proofs.Requests.Telling.{or_left, or_right}
 
 -- what became of each transaction
 abbrev pub Lives : Type 0
@@ -56,9 +57,6 @@ sent_same a b e =
     ap (λ (p : ℕ). sent_to p a.label) s.peer ∙ ap (λ (l : LabelParts). sent_to b.peer l) s.label
 
 -- ---- what a note makes of another transaction's life, and of its own
-began_life : (b : Bool) (kind k : ReplyKind) (for q : Purpose) (was : Life Purpose) → cond b (under_way kind (Some for)) was ≡ under_way k (Some q) → for ≢ q → (b ≡ false) × (was ≡ under_way k (Some q))
-began_life true kind k for q was e n = absurd (n (cc))
-began_life false kind k for q was e n = (refl, e)
 
 -- the lives agree but for one transaction
 pub record OffOne (peer : ℕ) (label : LabelParts) (old new : Lives) : Type 0 where
@@ -149,22 +147,14 @@ module _ (place : ℕ) (to : Option ℕ) (old new : Lives) (x : Sent) (o : OffOn
       not_under : {kind : ReplyKind} → not_begun ≡ under_way kind (Some Mine) → ⊥
       not_under e = cc
 
-  either : (a b : Bool) → a ≡ true → (a || b) ≡ true
-  either true b e = refl
-  either false b e = cc
-
-  or_else : (a b : Bool) → b ≡ true → (a || b) ≡ true
-  or_else true b e = refl
-  or_else false b e = e
-
   sent_x : (sent : Sent) → Some x ≡ Some sent → x ≡ sent
   sent_x sent e = cc
 
   begun_own : (a : Bool) (p : ℕ) (l : LabelParts) (kind : ReplyKind) → ((k : ReplyKind) → old p l ≡ under_way k (Some Mine) → a ≡ true) → new p l ≡ under_way kind (Some Mine) → (is_sent_as x p l || a) ≡ true
   begun_own a p l kind h e =
       split (is_same x.peer x.label p l) ((is_sent_as x p l || a) ≡ true)
-      (λ s. either (is_sent_as x p l) a (sent_is x p l ∙ s))
-      (λ f. or_else (is_sent_as x p l) a (h kind (sym (o.off p l f) ∙ e)))
+      (λ s. or_left (is_sent_as x p l) a (sent_is x p l ∙ s))
+      (λ f. or_right (is_sent_as x p l) a (h kind (sym (o.off p l f) ∙ e)))
 
   pub main_begins : (ahead : Option Sent) (kind : ReplyKind) → Seat place None ahead to old → old x.peer x.label ≡ not_begun → new x.peer x.label ≡ under_way kind (Some Mine) → to ≡ Some x.peer → Seat place (Some x) ahead to new
   main_begins ahead kind s fresh now t = record {

@@ -102,10 +102,6 @@ gone : (b : Bool) → false ≡ (false || (b && not (true || false)))
 gone true = refl
 gone false = refl
 
-turn_gone : (b : Bool) → false ≡ (false || (b && not (false || true)))
-turn_gone true = refl
-turn_gone false = refl
-
 -- a status block is small
 small_quads : (kind : StatusKind) (block : StatusBlock) → length (status_bytes (record block { kind = kind })) ≤ 2048
 small_quads kinds.Good block = grind (arith, common_steps)

@@ -61,7 +61,7 @@ use Rattle.sbp_target.specs.Agents.{told_cut, cut, follow}
 use Rattle.sbp_target.specs.Units.{is_cut, cut_at, cut_from, cut_all, clear_unit, clear_from, hears, is_pending, unsolicited_by, announce_to, announce_in, announce_at, announce_from}
 use Rattle.sbp_target.specs.Replies.{Stage, stage, Whole, whole, scene_of, plain_at, came, changed_by, announced_by, follow_all, advanced_with, advance, replied_with, replied, served_login, replied_by, replied_to}
 use Rattle.sbp_target.specs.Management.{cut_placed, cut_place, tell_left, tell_failed, effect_by, decided_by, with_manager, managed_with, managed_in, manage}
-use Rattle.sbp_target.specs.Serving.{answered, state_number, last_pointer, pointer_bytes, asked_in, asked_at, rcode_of, pointed_by, point, rung_by, ring, enabled, accessed_by, started_by, start, served_as, serve, is_barred}
+use Rattle.sbp_target.specs.Serving.{answered, state_number, last_pointer, pointer_bytes, asked_in, pointed_by, point, rung_by, ring, enabled, accessed_by, started_by, start, served_as, serve, is_barred}
 use Rattle.sbp_target.specs.Serving as serving
 use Rattle.sbp_target.specs.Receiving.{answer_in, concluded, judged_scene, with_layer, received_as, received, expired_with, expired_by, expire_agent, timed_out, expired_in, expired, tell_held, held_from, cleared_node, reset_by, seen, expired_from, ticked}
 use Rattle.sbp_target.specs.Calls.{receives, lets_expire, sees, ticks, alone}
@@ -416,10 +416,6 @@ pub record Apart (before now : NodeState) : Type 0 where
   pub pending : now.pending ≡ before.pending
   pub enabled : (place : ℕ) → (desk_at now place).is_enabled ≡ (desk_at before place).is_enabled
 
-picked : (b : Bool) (d e : Desk) (x : Bool) → d.is_enabled ≡ x → e.is_enabled ≡ x → (cond b d e).is_enabled ≡ x
-picked true d e x f g = f
-picked false d e x f g = g
-
 set_past_at : (desks : List Desk) (place other : ℕ) (d : Desk) → length desks ≤ place → slice_index_or (slice_set desks place d) other new_desk ≡ slice_index_or desks other new_desk
 set_past_at desks place other d h = ap (λ (ds : List Desk). slice_index_or ds other new_desk) (set_past desks place d h)
 
@@ -552,10 +548,6 @@ announces_ready true unit place node first s r =
       packets_are = a.packets_are ∙ ap (λ (x : Announced). s.outbox.packets ++ x.1) is
           ∙ ap (λ (ps : List Outgoing). ps ++ (announced_from 8 0 unit place node (layer_after node.layer (r.made.steps ++ first)) node.pending).1) r.made.packets_are;
     }
-
-plain_none : (told : List Side) → told ≡ [] → ArePlain told
-plain_none [] e = tt
-plain_none (side ∷ told) e = cc
 
 changed_ready : (b : Bool) (unit place : ℕ) (node : NodeState) (first : List (wire.Call Purpose)) (s : Scene) → Ready node first s → Ready node first (scene (changed_by b unit place s.node) s.outbox)
 changed_ready false unit place node first s r = r

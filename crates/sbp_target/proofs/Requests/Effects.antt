@@ -37,9 +37,13 @@ cut_sides : (b : Bool) (q : ℕ) (cause : CutCause) (o : OutboxState) → EndsNo
 cut_sides true q cause o = silent o
 cut_sides false q cause o = one_side o (sides.Cut q cause) (λ p. refl)
 
-cut_packets : (b : Bool) (q : ℕ) (cause : CutCause) (o : OutboxState) → (told_cut b q cause o).packets ≡ o.packets
+pub cut_packets : (b : Bool) (q : ℕ) (cause : CutCause) (o : OutboxState) → (told_cut b q cause o).packets ≡ o.packets
 cut_packets true q cause o = refl
 cut_packets false q cause o = refl
+
+pub left_packets : (replaced : Option ℕ) (o : OutboxState) → (tell_left replaced o).packets ≡ o.packets
+left_packets None o = refl
+left_packets (Some login) o = refl
 
 cut_told : (b : Bool) (q : ℕ) (cause : CutCause) (node : NodeState) (o : OutboxState) → b ≡ false → was_cut q (scene node (told_cut b q cause o)) ≡ true
 cut_told true q cause node o e = cc e
@@ -100,10 +104,6 @@ module _ (tables chunks : ℕ → ℕ) where
     left_sides : (replaced : Option ℕ) (o : OutboxState) → EndsNone o (tell_left replaced o)
     left_sides None o = silent o
     left_sides (Some login) o = one_side o (sides.Left login) (λ p. refl)
-
-    left_packets : (replaced : Option ℕ) (o : OutboxState) → (tell_left replaced o).packets ≡ o.packets
-    left_packets None o = refl
-    left_packets (Some login) o = refl
 
     -- ---- a place gets another login, or loses its own
     disables : (place : ℕ) (s t : Scene) (d : Desk) → t.node.desks ≡ slice_set s.node.desks place d → own t ≡ own s → d.agent ≡ (desk_at s.node place).agent → d.is_enabled ≡ false → EndsNone s.outbox t.outbox → Eases s → Eases t

@@ -107,7 +107,7 @@ failed_sides : (source : ℕ) (cause : Option FailCause) (o : OutboxState) → E
 failed_sides source None o = silent o
 failed_sides source (Some cause) o = one_side o (sides.ManageFailed source cause) (λ p. refl)
 
-failed_packets : (source : ℕ) (cause : Option FailCause) (o : OutboxState) → (tell_failed source cause o).packets ≡ o.packets
+pub failed_packets : (source : ℕ) (cause : Option FailCause) (o : OutboxState) → (tell_failed source cause o).packets ≡ o.packets
 failed_packets source None o = refl
 failed_packets source (Some cause) o = refl
 

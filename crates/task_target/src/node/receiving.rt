@@ -2,7 +2,7 @@ ghost use Rattle.std.specs.Prelude.{◌≡◌, ◌+◌, ◌^◌, ◌<◌, ◌≤
 ghost use Rattle.async_packet.specs.Packet.{view, header_in};
 ghost use Rattle.label_table.specs.Layer.{IsLent, finding_of, judging_step};
 ghost use Rattle.orb_layout.specs.Replies.{answer_of};
-ghost use Rattle.task_target.specs.Counting.{LeavesCount};
+ghost use Rattle.sbp_target.specs.Counting.{LeavesCount};
 ghost use Rattle.task_target.specs.Nodes.{scene};
 ghost use Rattle.task_target.specs.Replies.{whole};
 ghost use Rattle.task_target.specs.Receiving.{Concludes, Receives, answer_by, answer_in, IsNoQuadlet};

@@ -4,8 +4,8 @@ ghost use Rattle.label_table.specs.Bodies.{Gives};
 ghost use Rattle.label_table.specs.Requests.{IsRequestOf};
 ghost use Rattle.target_base.specs.Addresses.{IsWithin, complete, demand_of};
 ghost use Rattle.target_base.specs.Logins.{is_barred};
-ghost use Rattle.task_target.specs.Counting.{LeavesCount};
-ghost use Rattle.task_target.specs.Giving.{Suits, SuitsAccess};
+ghost use Rattle.sbp_target.specs.Counting.{LeavesCount};
+ghost use Rattle.sbp_target.specs.Giving.{Suits, SuitsAccess};
 ghost use Rattle.task_target.specs.Nodes.{scene};
 ghost use Rattle.sbp_journal.specs.declared.side.Side.TheVariants as sides;
 ghost use Rattle.task_target.specs.Sending.{with_side};
@@ -88,7 +88,7 @@ fn demand_in(size: usize, request: &PacketRef<'_>) -> Demand
 impl Node {
     /// Judges a request that is none of those that a transaction layer ignores: one for an agent
     /// register that belongs to no live login of its source is ignored; else it is served.
-    #[tactic(auto, unfolding(crate::specs::Serving::request_step), using(crate::proofs::Giving::refused_gives))]
+    #[tactic(auto, unfolding(crate::specs::Serving::request_step), using(sbp_target::proofs::Giving::refused_gives))]
     pub(super) fn request(
         &mut self,
         medium: &mut dyn Medium,
@@ -140,7 +140,7 @@ impl Node {
 
     /// Does what a request that was got asks for, and answers it. There is no management agent, so
     /// MANAGEMENT_AGENT is answered as an address where no register is.
-    #[tactic(auto, unfolding(crate::specs::Serving::serve), using(crate::proofs::Giving::refused_gives))]
+    #[tactic(auto, unfolding(crate::specs::Serving::serve), using(sbp_target::proofs::Giving::refused_gives))]
     fn serve(
         &mut self,
         medium: &mut dyn Medium,

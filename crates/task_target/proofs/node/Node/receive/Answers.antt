@@ -1,7 +1,7 @@
 use Rattle.std.specs.Prelude.{[]}
 use Rattle.std.proofs.Common.{ap, ◌∙◌}
-use Rattle.task_target.proofs.Again.{again_gives}
-use Rattle.task_target.proofs.Leaving.{judged_leaves, leaves_from}
+use Rattle.sbp_target.proofs.Again.{again_gives}
+use Rattle.sbp_target.proofs.Leaving.{judged_leaves, leaves_from}
 use Rattle.task_target.proofs.Received.{if_ok, received_again, received_generation, received_grammar, received_label, received_request, received_response}
 use Rattle.task_target.proofs.node.Node.receive.Goals as goal
 

@@ -1,7 +1,7 @@
 use Rattle.std.proofs.Common.{subst, sym}
 use Rattle.async_packet.specs.Packet.{view}
-use Rattle.task_target.specs.Giving.{Suits}
-use Rattle.task_target.proofs.Giving.{demand_suits}
+use Rattle.sbp_target.specs.Giving.{Suits}
+use Rattle.sbp_target.proofs.Giving.{demand_suits}
 use Rattle.task_target.proofs.node.serving.demand_in.Goals as goal
 
 pub returns-clause-suits : goal.returns-clause-suits
