@@ -386,9 +386,6 @@ second_linked =
     ∷ asked 5 (events.Deliver 4) ∷ said (notes.Got 4) ∷ said (notes.Sent 5 0 1 0 (orb_packet 0 0 0x10000040)) ∷ asked 6 (events.Deliver 5)
     ∷ said (notes.Got 5) ∷ ran None ∷ ended kinds.Good ∷ said (notes.Sent 6 0 0 1 (status_packet 0x01000000)) ∷ []))
 
-abbrev pub reads_ahead : List Moment
-reads_ahead = told (second_linked ++ said (notes.Sent 7 0 0 1 (fetch_packet 1 0x10000040)) ∷ [])
-
 abbrev pub reads_nothing_ahead : List Moment
 reads_nothing_ahead = told second_linked
 
@@ -398,9 +395,6 @@ rings_suspended =
     till_status ++ (takes_status ++ (comes_to_rest ++ asked 4 (events.Act 0 actions.Ring) ∷ said (notes.Rung 0 0 0)
     ∷ said (notes.Sent 7 0 1 0 (canon (write_quadlet (to_target 0) 0xfffff0040010 1))) ∷ asked 5 (events.Deliver 7) ∷ said (notes.Got 7)
     ∷ said (notes.Sent 8 0 0 1 (done_by_target 0 0)) ∷ []))
-
-abbrev pub rereads : List Moment
-rereads = told (rings_suspended ++ said (notes.Sent 9 0 0 1 (canon (read_block (to_first 0) 0x10000000 8))) ∷ [])
 
 abbrev pub doorbell_ignored : List Moment
 doorbell_ignored = told rings_suspended

@@ -41,12 +41,6 @@ abbrev pub is_list : Option ℕ → ℕ → Bool
 is_list None n = false
 is_list (Some list) n = list == n
 
--- a list was dropped
-abbrev pub is_dropped : List Moment → ℕ → ℕ → Bool
-is_dropped [] = λ i n. false
-is_dropped (said (notes.Drop i n) ∷ past) = upd2 (is_dropped past) i n true
-is_dropped (_ ∷ past) = is_dropped past
-
 -- the CMD of a line
 abbrev pub cmd_of : Option Event → Option Cmd
 cmd_of (Some (events.Act i (actions.Put cmd))) = Some cmd
@@ -126,13 +120,6 @@ pinned_orb (said (notes.Op i operations.Abort word) ∷ past) = upd (pinned_orb 
 pinned_orb (said (notes.Seen (suc i) generation) ∷ past) =
     upd (pinned_orb past) i (if generation == (terms past).generation (suc i) then pinned_orb past i else None)
 pinned_orb (_ ∷ past) = pinned_orb past
-
--- the ORB that the line of an abort named, by the serial of the write that this line sent
-abbrev pub aborted_by : List Moment → (serial i : ℕ) → Option Orb
-aborted_by [] = λ serial i. None
-aborted_by (said (notes.Sent serial generation (suc i) to bytes) ∷ past) =
-    upd2 (aborted_by past) serial i (pins (event_of past) i (present_list past i) None)
-aborted_by (_ ∷ past) = aborted_by past
 
 abbrev pub is_pinned : Option Orb → ℕ → ℕ → Bool
 is_pinned None n k = false

@@ -15,7 +15,6 @@ use Rattle.orb_layout.specs.ManagementOrbs.{management_bytes}
 use Rattle.orb_layout.specs.Pointers.{quad_bytes}
 use Rattle.orb_layout.specs.StatusBlocks.{status_bytes}
 use Rattle.rbc_disk.specs.Disk.{Disk}
-use Rattle.label_table.specs.Bodies.{Body, block_write as body_write}
 use Rattle.config_rom.specs.Make.{made}
 use Rattle.sbp_journal.specs.Run.{Run, Entry, Moment, asked, said}
 use Rattle.sbp_journal.specs.declared.cause.Cause.TheVariants as ignored
@@ -249,15 +248,6 @@ untold_told =
     ∷ said (notes.Got 5) ∷ said (notes.Sent 6 0 1 0 (done_by_first 0))
     ∷ said (notes.Got 6) ∷ said (notes.Ended 0 (Some 0) (Some 0) kinds.Good) ∷ said (notes.Sent 7 0 0 1 (status_packet 0x41000000))
     ∷ said (notes.Got 7) ∷ said (notes.Taken 0 0 0 kinds.Good some_block) ∷ said (notes.Sent 8 0 1 0 (done_by_first 0)) ∷ said (notes.Got 8) ∷ said notes.Settled ∷ [])
-
--- a chunk of its answer; and one label of the target to initiator 0 is free, whose last request was a write of as many bytes there
-abbrev pub some_chunk : Body
-some_chunk = body_write 0x11000000 some_block
-
-abbrev pub one_label_left : List Moment
-one_label_left =
-    behind begins (reads_under 63
-    ++ notes.Sent 64 0 0 1 (canon (write_block (to_first 63) 0x11000000 (replicate 512 0xaa))) ∷ notes.Got 64 ∷ notes.Sent 65 0 1 0 (done_by_first 63) ∷ notes.Got 65 ∷ [])
 
 -- ---- initiator 0 injects a write of its ORB_POINTER that names no slot: what it reads there is refused, and its agent dies
 abbrev pub wild_pointer : List ℕ

@@ -31,7 +31,7 @@ use Rattle.sbp_laws.specs.Targets.{eui_of}
 use Rattle.sbp_laws.specs.WorkedRuns as runs
 use Rattle.sbp_laws.specs.WorkedRuns.{till_capacity}
 use Rattle.sbp_laws.specs.RareRuns as rare
-use Rattle.sbp_laws.specs.RareRuns.{behind, from_second, to_second, read_block_0, reads_block, starts_login, untold_disk}
+use Rattle.sbp_laws.specs.RareRuns.{behind, from_second, to_second, read_block_0, starts_login, untold_disk}
 
 -- a run without its latest moments, and with these notes instead
 abbrev pub instead : (count : ℕ) → List Moment → List Note → List Moment
@@ -244,10 +244,6 @@ abbrev pub reads_rom : (quadlet : ℕ) → List Moment
 reads_rom quadlet =
     told (begins ++ asked 2 (events.Act 0 actions.Rom) ∷ said (notes.Sent 1 0 1 0 (canon (read_quadlet (to_target 0) 0xfffff0000400)))
     ∷ asked 3 (events.Deliver 1) ∷ said (notes.Got 1) ∷ said (notes.Sent 2 0 0 1 (canon (read_quadlet_response (to_first 0) 0 quadlet))) ∷ [])
-
--- ---- media
-abbrev pub load_notes : Note → List Moment
-load_notes note = told (two_begin ++ (enables ++ (loads ++ said note ∷ [])))
 
 -- ---- action: entries
 abbrev pub one_entry : Event → List Note → List Entry
