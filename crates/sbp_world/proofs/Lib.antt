@@ -27,3 +27,4 @@ pub mod Sessions
 pub mod Pointers
 pub mod Lists
 pub mod Counting
+pub mod Completing

@@ -20,3 +20,4 @@ pub mod Sessions
 pub mod Pointers
 pub mod Lists
 pub mod Counting
+pub mod Completing

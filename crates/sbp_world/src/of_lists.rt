@@ -1,4 +1,20 @@
 //! The laws of the lists and the agents.
+ghost use Rattle.sbp_world.specs.Completing.Labels.{FewUnderWayLaw, LabelsLeftLaw, LosslessLaw, NoneRestsLaw};
+ghost use Rattle.sbp_world.specs.Completing.LabelsAsked.{AskedLaw};
+ghost use Rattle.sbp_world.specs.Completing.LabelsFollowing.{ChunksLaw, DataLaw, FollowingLaw, NextLaw, ReadsLaw, ServedLaw, StatusesLaw};
+ghost use Rattle.sbp_world.specs.Completing.LabelsFound.{ClosedLaw, FoundLaw};
+ghost use Rattle.sbp_world.specs.Completing.Answers.{CompleteAsGotLaw, CompleteLaw};
+ghost use Rattle.sbp_world.specs.Completing.Operations.{ManagementAloneLaw, NoReadsLaw, WrittenLaw};
+ghost use Rattle.sbp_world.specs.Completing.OperationsReplies.{WholeRepliesLaw};
+ghost use Rattle.sbp_world.specs.Completing.Present.{RestPointedLaw, RungWrittenLaw};
+ghost use Rattle.sbp_world.specs.Completing.Deaths.{AnsweredLaw, DeliveriesLive, GivenLaw, LivingLaw, NoneDiesLaw, OthersLive, RepliesLive};
+ghost use Rattle.sbp_world.specs.Completing.Rest.{RestLaw};
+ghost use Rattle.sbp_world.specs.Completing.RestServed.{RestServedLaw};
+ghost use Rattle.sbp_world.specs.Completing.RestStatuses.{RestStatusesLaw};
+ghost use Rattle.sbp_world.specs.Completing.Answers.{CompleteAsGotLaw, CompleteLaw, ManagedCompleteLaw, WholeAsGotLaw};
+ghost use Rattle.sbp_world.specs.Completing.Nulls.{NullsLaw};
+ghost use Rattle.sbp_world.specs.Completing.Rung.{RungLaw};
+ghost use Rattle.sbp_world.specs.Completing.Answers.{CompleteAsGotLaw, CompleteLaw, ManagedCompleteLaw, OrbWholeAsGotLaw, WholeAsGotLaw};
 ghost use Rattle.sbp_world.specs.Counting.Bounded.{CompletionLaw};
 ghost use Rattle.sbp_world.specs.Lists.AheadGots.{AheadAsGotLaw, AheadSinceLaw, WaitsAsGotLaw};
 ghost use Rattle.sbp_world.specs.Lists.Along.{AlongLaw};
@@ -791,4 +807,274 @@ pub fn ignored_statuses_name_no_waiting_orb()
 /// `settle` there ends with nothing in flight, unless its budget is more than 10,000,000.
 pub fn deliveries_are_bounded()
     ensures { CompletionLaw }
+{}
+
+/// In every run, after every line, and behind each delivery of a line that delivers one packet after the other: where the run is lossless,
+/// nothing was lost since the latest reset, and the target has seen that reset.
+#[tactic(auto, using(crate::proofs::Completing::LabelsResting::lossless_law))]
+pub fn lossless_runs_lose_nothing()
+    ensures { LosslessLaw }
+{}
+
+/// In every run, where nothing was lost since the latest reset, which the target has seen, none of its labels to any node rests.
+#[tactic(auto, using(crate::proofs::Completing::LabelsResting::none_rests_law))]
+pub fn no_label_of_the_target_rests()
+    ensures { NoneRestsLaw }
+{}
+
+/// In every run in which no initiator injected packets, of the target's 64 labels to an initiator at most four more are under way than those
+/// of requests that were sent for lists which have been cut: one for the main transaction of an agent, one for its read ahead, one for the
+/// management operation, and one for an unsolicited status.
+#[tactic(auto, using(crate::proofs::Completing::LabelsRuns::few_under_way_law))]
+pub fn few_labels_of_the_target_are_under_way()
+    ensures { FewUnderWayLaw }
+{}
+
+/// In every run in which no initiator injected packets, where nothing was lost and at most 40 requests of the target to an initiator are
+/// under way that were sent for lists which have been cut, 20 of its labels to that one are neither under way nor at rest.
+#[tactic(auto, using(crate::proofs::Completing::LabelsRuns::labels_left_law))]
+pub fn labels_of_the_target_are_left()
+    ensures { LabelsLeftLaw }
+{}
+
+/// So each request that the target makes in a call there finds a label: a read behind fewer than 20 requests to the initiator, a read ahead,
+/// which needs 16 free labels, behind four, and a write where the last request under a free label is another.
+#[tactic(auto, using(crate::proofs::Completing::LabelsFound::found_law))]
+pub fn requests_of_the_target_find_labels()
+    ensures { FoundLaw }
+{}
+
+/// In every run the label of the target that a response closes is free then, and the last request under it is the one that was answered.
+#[tactic(auto, using(crate::proofs::Completing::LabelsClosed::closed_law))]
+pub fn closed_labels_have_the_answered_request()
+    ensures { ClosedLaw }
+{}
+
+/// Where requests of the target find labels so, no transaction is lost for want of one: what follows a step of an agent, which does not make it
+/// dead, is that its main request leaves, and then its read ahead; and what the management operation asks for leaves.
+#[tactic(auto, using(crate::proofs::Completing::LabelsAsked::asked_law))]
+pub fn no_transaction_is_lost_for_want_of_a_label()
+    ensures { AskedLaw }
+{}
+
+/// In every run in which no initiator injected packets, or few logins were given, and before which lists were open as they should be: a request
+/// that an agent waits for, of an initiator that injected none and is in the target's generation, is answered complete (rcode 0) if it is got
+/// now, and a read with as many bytes as it asks for. It may be a read of an ORB or of its next pointer, of a page table or of data, a write
+/// of data, or a write of a status block. After every line, and behind each delivery of a line that delivers one packet after the other.
+#[tactic(auto, using(crate::proofs::Completing::AnswersRuns::complete_law))]
+pub fn agents_wait_for_complete_answers()
+    ensures { CompleteLaw }
+{}
+
+/// So it is as each packet is got, in every run in which no initiator injected packets, or few logins were given: where it is a request that an
+/// agent waits for, it is answered complete.
+#[tactic(auto, using(crate::proofs::Completing::AnswersRuns::complete_as_got_law))]
+pub fn requests_of_agents_are_answered_complete()
+    ensures { CompleteAsGotLaw }
+{}
+
+/// In every run, whatever anyone injected, where every node has seen the latest reset, nothing was lost
+/// since, no transaction timed out, nothing was injected, and nothing is in flight, the run is at rest: no
+/// request is under way, of any node. So each agent is in RESET, SUSPENDED or DEAD and has no transaction,
+/// the target has no management operation, and no initiator waits for a response, to a write or a read.
+/// So it is in the nodes, and by the terms of the history. After every line, and behind each delivery of a
+/// line that delivers one packet after the other.
+pub fn runs_come_to_rest()
+    ensures { RestLaw }
+{}
+
+/// In every run, at such a place, each write of the latest generation that was not injected, between two
+/// nodes that injected no packets, was taken as new by its receiver exactly once.
+pub fn writes_are_taken_at_rest()
+    ensures { RestServedLaw }
+{}
+
+/// In every run in which no initiator injected packets, or few logins were given, at such a place, of each
+/// list that is the present one of an initiator that injected none, and was not cut, the status of each ORB
+/// that ended was taken, but for that of the last one, where an agent of the initiator is DEAD.
+pub fn statuses_are_taken_at_rest()
+    ensures { RestStatusesLaw }
+{}
+
+/// In every run, behind a response to a request of the target, each write to that node finds a label which is not the request that was
+/// answered: that of this request.
+#[tactic(auto, using(crate::proofs::Completing::LabelsFollowing::served_law))]
+pub fn writes_find_the_label_of_the_answered_request()
+    ensures { ServedLaw }
+{}
+
+/// In every run a write that an agent asks for behind a reply to its main transaction finds a label to the node of its login, unless that
+/// transaction was the same write: the label of that request.
+#[tactic(auto, using(crate::proofs::Completing::LabelsFollowing::following_law))]
+pub fn writes_of_agents_find_the_label_of_the_answered_request()
+    ensures { FollowingLaw }
+{}
+
+/// In every run in which no initiator injected packets, what an agent asks to write behind a reply to the write of a chunk of its answer is
+/// another write: the next chunk begins elsewhere, and a status block goes to a FIFO, which is in no buffer.
+#[tactic(auto, using(crate::proofs::Completing::LabelsChunks::chunks_law))]
+pub fn writes_behind_a_chunk_are_others()
+    ensures { ChunksLaw }
+{}
+
+/// In every run in which no initiator injected packets, or few logins were given, as the target gets a response to a read that an agent waits
+/// for, of an initiator that injected none: it brings as many bytes as the read asked for. So no agent finds such a read refused or cut short.
+#[tactic(auto, using(crate::proofs::Completing::AnswersRuns::whole_as_got_law))]
+pub fn reads_of_agents_bring_what_they_ask_for()
+    ensures { WholeAsGotLaw }
+{}
+
+/// In every run in which no initiator injected packets, or few logins were given, as each packet is got: a read that the management operation
+/// waits for, of its ORB or of a half of the EUI-64 of the node that sent it, of an initiator that injected none, is answered complete if it is
+/// got now, with as many bytes as it asks for.
+#[tactic(auto, using(crate::proofs::Completing::AnswersRuns::managed_complete_law))]
+pub fn reads_of_the_operation_are_answered_complete()
+    ensures { ManagedCompleteLaw }
+{}
+
+/// In every run, whatever anyone injected, at such a place no initiator has a read of AGENT_STATE under way.
+#[tactic(auto, using(crate::proofs::Completing::OperationsRuns::no_reads_law))]
+pub fn no_state_is_read_at_rest()
+    ensures { NoReadsLaw }
+{}
+
+/// In every run in which no initiator injected packets, or few logins were given, an agent whose DOORBELL the
+/// target got is not SUSPENDED later, at the node and by the terms of the history, unless since then the target
+/// got a response that brought the agent a null pointer, in an ORB, in a next pointer or in an ORB that it reads
+/// ahead, to a read that was sent since. After every line, and behind each delivery of a line that delivers one
+/// packet after the other.
+pub fn rung_agents_go_on()
+    ensures { RungLaw }
+{}
+
+/// In every run in which no initiator injected packets, or few logins were given, where the target got a null
+/// pointer from an initiator that injected none, in answer to its read of the ORB of a slot or of the next
+/// pointer there: as the read was got, the ORB that was prepared last in this slot was the last one of its list
+/// that was linked. That was behind each moment before which the read was not sent, so the ORB is no earlier
+/// one of its list than the last one that was linked at that moment. After every line, and behind each delivery
+/// of a line that delivers one packet after the other.
+pub fn null_pointers_are_of_last_orbs()
+    ensures { NullsLaw }
+{}
+
+/// In every such run, as the target gets a response to the read of its ORB that the management operation waits for, of an initiator that injected
+/// none: it brings as many bytes as the read asked for.
+#[tactic(auto, using(crate::proofs::Completing::AnswersRuns::orb_whole_law))]
+pub fn reads_of_management_orbs_bring_what_they_ask_for()
+    ensures { OrbWholeAsGotLaw }
+{}
+
+/// At such a place an operation that an initiator has under way is one of the management agent: no read of the ROM is under way, nor a
+/// write of AGENT_RESET or UNSOLICITED_STATUS_ENABLE, each of which ends with its own request.
+#[tactic(auto, using(crate::proofs::Completing::OperationsRuns::management_alone_law))]
+pub fn operations_at_rest_are_of_the_management()
+    ensures { ManagementAloneLaw }
+{}
+
+/// In every such run in which no initiator injected packets, or few logins were given, the write of MANAGEMENT_AGENT of an operation that an
+/// initiator which injected none has under way at such a place was answered complete, and the target had taken it as new: each other end
+/// of it ends the operation.
+#[tactic(auto, using(crate::proofs::Completing::OperationsRuns::written_law))]
+pub fn writes_of_operations_at_rest_were_completed()
+    ensures { WrittenLaw }
+{}
+
+/// A whole reply to what an operation of the management agent asked for takes it on: a read that brings as many bytes as its phase waits
+/// for, or a write that is answered complete. Nothing fails; and the operation goes on, of the same node and with the same management
+/// ORB, or it is over where its status block was written.
+#[tactic(auto, using(crate::proofs::Completing::OperationsReplies::whole_replies_law))]
+pub fn whole_replies_take_operations_on()
+    ensures { WholeRepliesLaw }
+{}
+
+/// In every run, whatever anyone injected, ORB_POINTER was written for each list with a rung ORB: a ring
+/// writes it, where it was not written for the present list, and nothing else that an initiator does rings an
+/// ORB. After every line, and behind each delivery of a line that delivers one packet after the other.
+pub fn rung_lists_have_their_pointer()
+    ensures { RungWrittenLaw }
+{}
+
+/// In every run, at such a place, where the run is lossless and nothing is in flight: of each list with a rung
+/// ORB that an initiator which injected no packets began since it first saw the latest reset, and that was not
+/// cut, the write of ORB_POINTER was sent in the generation that the initiator is in, and was taken as new.
+pub fn pointers_of_rung_lists_are_taken_at_rest()
+    ensures { RestPointedLaw }
+{}
+
+/// In every run in which no initiator injected packets, what an agent asks to write behind a reply to the write of a status block is another
+/// write, unless it is a status block too: a buffer stands below each FIFO.
+#[tactic(auto, using(crate::proofs::Completing::LabelsData::data_law))]
+pub fn writes_of_data_behind_a_status_are_others()
+    ensures { DataLaw }
+{}
+
+/// In every run, behind the response to a read of the target each write to that node finds a label: that of the read.
+#[tactic(auto, using(crate::proofs::Completing::LabelsFollowing::reads_law))]
+pub fn writes_behind_a_read_find_its_label()
+    ensures { ReadsLaw }
+{}
+
+/// In every run in which no initiator injected packets, what an agent asks to write behind a reply to the write of a status block is another
+/// write, whatever that is: a status block names the next ORB of the list, which stands in another slot.
+#[tactic(auto, using(crate::proofs::Completing::LabelsData::statuses_law))]
+pub fn writes_behind_a_status_are_others()
+    ensures { StatusesLaw }
+{}
+
+/// So in every run in which no initiator injected packets, each write that an agent asks for behind a reply to its main transaction finds a
+/// label to the node of its login.
+#[tactic(auto, using(crate::proofs::Completing::LabelsAgents::next_law))]
+pub fn writes_of_agents_find_labels()
+    ensures { NextLaw }
+{}
+
+/// An agent that is along a list of commands which a script can state (a max_payload of 9 at most, and no empty segment) does not die at a
+/// reply to its main transaction that is complete and brings what the list holds: its ORB, its page table, its data, its next pointer, or the
+/// answer to a write. It dies at no reply to its read ahead.
+#[tactic(auto, using(crate::proofs::Completing::DeathsReplies::replies_live))]
+pub fn agents_live_on_complete_replies()
+    ensures { RepliesLive }
+{}
+
+/// No agent of the target dies in the delivery of a packet to it at which the step of an agent does not make that one dead, and what it asks
+/// for finds a label: the step at the response to its transaction, the read of an ORB at ORB_POINTER, and that of a next pointer at DOORBELL.
+#[tactic(auto, using(crate::proofs::Completing::DeathsTold::deliveries_live))]
+pub fn no_agent_dies_in_a_delivery_that_goes_on()
+    ensures { DeliveriesLive }
+{}
+
+/// No agent of the target dies where the target sees a generation, or a second goes by.
+#[tactic(auto, using(crate::proofs::Completing::DeathsTold::others_live))]
+pub fn no_agent_dies_at_a_sight_or_a_tick()
+    ensures { OthersLive }
+{}
+
+/// In every run in which no initiator injected packets, and the commands of the lines are those that a script can state: no agent died since the
+/// target first saw the latest reset, where nothing was lost since that reset, and at each moment since that sight at most 40 requests of the
+/// target to an initiator are under way that were sent for lists which have been cut. So it is if each delivery of a packet to the target goes
+/// on at each such place: the step of an agent does not make it dead, and what it asks for finds a label.
+#[tactic(auto, using(crate::proofs::Completing::DeathsRuns::none_dies_law))]
+pub fn no_agent_dies_where_deliveries_go_on()
+    ensures { NoneDiesLaw }
+{}
+
+/// So each delivery goes on, and no agent dies, in every such run if at each such place the response to the main transaction of an agent is
+/// complete, and a write that the agent asks for behind it finds a label: reads find labels, and what agents read is what their lists hold.
+#[tactic(auto, using(crate::proofs::Completing::DeathsGoing::living_law))]
+pub fn no_agent_dies_where_replies_are_complete()
+    ensures { LivingLaw }
+{}
+
+/// The response to the main transaction of an agent is complete for it, at each such place, if it answers complete what the agent asked for:
+/// a read with as many bytes as it asked for, and a write with rcode 0.
+#[tactic(auto, using(crate::proofs::Completing::DeathsGiven::given_law))]
+pub fn complete_answers_are_complete_replies()
+    ensures { GivenLaw }
+{}
+
+/// No agent dies, in every run in which nobody injected packets and the commands are legal, while nothing is lost and few requests of lists that
+/// were cut are under way, if each main transaction of an agent is answered complete.
+#[tactic(auto, using(crate::proofs::Completing::DeathsAnswered::answered_law))]
+pub fn no_agent_dies_where_answers_are_complete()
+    ensures { AnsweredLaw }
 {}

@@ -1,35 +1,26 @@
 -- The reads of AGENT_STATE that an initiator has under way by the terms: each note that ends no transaction of its own, sends nothing of its own and shows it no generation leaves them.
-use Rattle.std.proofs.Common.{◌≡◌, refl, sym, ◌∙◌, ap, ℕ, zero, suc, ◌==◌, ◌&&◌, nat_eq, not, Bool, true, false, cond, List, [], ◌∷◌, Option, Some, None}
+use Rattle.sbp_world.proofs.Words.Std.{◌≡◌, refl, sym, ◌∙◌, ap, ℕ, zero, suc, ◌==◌, ◌&&◌, nat_eq, not, Bool, true, false, cond, List, [], ◌∷◌, Option, Some, None}
+use Rattle.sbp_world.proofs.Words.Wire.{Action, Event, Moment, Note, Operation, OpWord, Part, Sending, Side, Terms, part_of, request, response, said, terms}
+use Rattle.sbp_world.proofs.Words.Laws.{Host, Underway, acted, answered_at, event_of, goes_on, host_at, known_host, list_begins, op_ended, operation_of, present_list, receiver_in, ring, sender_in, sent_in}
+use Rattle.sbp_world.proofs.Words.World.{behind}
 use Rattle.std.specs.List.{filter}
-use Rattle.sbp_journal.specs.Run.{Moment, said}
-use Rattle.sbp_journal.specs.Transactions.{Part, Sending, no_packet, part_of, request, response}
-use Rattle.sbp_journal.specs.Wire.{Terms, terms}
+use Rattle.sbp_journal.specs.Transactions.{no_packet}
 use Rattle.sbp_journal.specs.declared.cause.Judged.{Judged}
 use Rattle.sbp_journal.specs.declared.cause.Judged.TheVariants as judgements
-use Rattle.sbp_journal.specs.declared.event.Action.{Action}
 use Rattle.sbp_journal.specs.declared.event.Action.TheVariants as actions
-use Rattle.sbp_journal.specs.declared.event.Event.{Event}
 use Rattle.sbp_journal.specs.declared.event.Event.TheVariants as events
-use Rattle.sbp_journal.specs.declared.note.Note.{Note}
 use Rattle.sbp_journal.specs.declared.note.Note.TheVariants as notes
-use Rattle.sbp_journal.specs.declared.operation.Operation.{Operation}
 use Rattle.sbp_journal.specs.declared.operation.Operation.TheVariants as operations
-use Rattle.sbp_journal.specs.declared.operation.OpWord.{OpWord}
 use Rattle.sbp_journal.specs.declared.operation.OpWord.TheVariants as words
-use Rattle.sbp_journal.specs.declared.side.Side.{Side}
 use Rattle.sbp_journal.specs.declared.side.Side.TheVariants as sides
-use Rattle.sbp_laws.specs.Hosts.{Host, StateRead, Underway, acted, got_by, goes_on, host_at, is_serial, known_host, list_begins, op_ended, op_left, operation_of, reset_seen, ring, sent_as, sent_in, without_read}
-use Rattle.sbp_laws.specs.Lists.{present_list}
-use Rattle.sbp_laws.specs.Packets.{answered_at, receiver_in, sender_in}
-use Rattle.sbp_laws.specs.Turns.{event_of}
-use Rattle.sbp_world.proofs.Pointers.Sending.{off as and_off}
+use Rattle.sbp_laws.specs.Hosts.{StateRead, got_by, is_serial, op_left, reset_seen, sent_as, without_read}
 use Rattle.sbp_world.proofs.Common.{cond_off, itself, turned, untrue}
+use Rattle.sbp_world.proofs.Hosts.Beside.{turned as away}
 use Rattle.sbp_world.proofs.Hosts.Carries.{IsNoAct, is_apart}
 use Rattle.sbp_world.proofs.Hosts.Cores.{not_so, wire_is}
 use Rattle.sbp_world.proofs.Hosts.Layered.{AreTame, is_tame}
 use Rattle.sbp_world.proofs.Hosts.Shown.{IsElsewhere}
-use Rattle.sbp_world.specs.Hosts.Calls.{behind}
-use Rattle.sbp_world.proofs.Hosts.Beside.{turned as away}
+use Rattle.sbp_world.proofs.Pointers.Sending.{off as and_off}
 
 abbrev pub Reads : List Moment → ℕ → List StateRead
 Reads past i = (host_at past i).reads
@@ -97,7 +88,7 @@ begins_reads zero host = refl
 begins_reads (suc k) host = refl
 
 -- ---- the notes of an initiator that are none of a turn's first ones, and no packets
-told_one : (note : Note) (past : List Moment) (i : ℕ) → is_tame note ≡ true → Reads (said note ∷ past) i ≡ Reads past i
+pub told_one : (note : Note) (past : List Moment) (i : ℕ) → is_tame note ≡ true → Reads (said note ∷ past) i ≡ Reads past i
 told_one (notes.Append j n k cdb buffer) past i e = same_if (nat_eq j i) (list_begins k (host_at past i)) (host_at past i) (begins_reads k (host_at past i))
 told_one (notes.Low j n k) past i e = refl
 told_one (notes.Linked j n k) past i e = refl
@@ -179,7 +170,7 @@ module _ {A : Type 0} (f : Host → A) (goes : (u : Option Underway) (serial : �
       either_same ((nat_eq from (suc i)) && not ((known_host past i).wire.injected serial)) (sent_as (part_of bytes) (event_of past) i (present_list past i) serial (host_at past i)) (host_at past i)
       (part_same (part_of bytes) (event_of past) i (present_list past i) serial (host_at past i) n)
 
-goes_reads : (u : Option Underway) (serial : ℕ) (host : Host) → (goes_on u serial host).reads ≡ host.reads
+pub goes_reads : (u : Option Underway) (serial : ℕ) (host : Host) → (goes_on u serial host).reads ≡ host.reads
 goes_reads None serial host = refl
 goes_reads (Some underway) serial host = refl
 

@@ -32,7 +32,7 @@ use Rattle.sbp_world.proofs.Common.{and_first}
 use Rattle.sbp_world.proofs.Hosts.Mild.{quad_tcode}
 use Rattle.sbp_world.proofs.Wire.Bus.{holds}
 use Rattle.sbp_world.proofs.Wire.Kept.{and_true}
-use Rattle.turn_laws.proofs.OtherLabels.{Roomy, alike_self, goes_disowned, room_asked}
+use Rattle.sbp_world.proofs.Agents.OtherLabels.{Roomy, alike_self, goes_disowned, room_asked}
 
 -- ---- counts of labels
 abbrev one : Bool → ℕ
@@ -138,23 +138,26 @@ module _ (row : ℕ → ℕ) (m : ℕ) (small : m < 5) where
   asks_count : (l : Node) → Roomy row l → (body : Body) → (let r = asking_step l here body tt in shown r.1 + one (is_some r.0) ≡ shown l)
   asks_count l r body = asked_count l (unlabelled l here body) (asking_step l here body tt) (asks l here body r.places)
 
-  -- a read finds a label where one is free
-  read_by : (l : Node) (offset len : ℕ) → Roomy row l → 1 ≤ shown l → (r : Option Asked × Node) → AskedAs l here (unlabelled l here (block_read offset len)) r → is_some r.0 ≡ true
-  read_by l offset len r b (Some asked, new) a = refl
-  read_by l offset len r b (None, new) a =
+  -- what is no write finds a label where one is free
+  abbrev NoWrite : Body → Type 0
+  NoWrite body = (node : ℕ) → is_write (canon (request_with (header_to node here 0) body)) ≡ false
+
+  plain_by : (l : Node) (body : Body) → NoWrite body → Roomy row l → 1 ≤ shown l → (r : Option Asked × Node) → AskedAs l here (unlabelled l here body) r → is_some r.0 ≡ true
+  plain_by l body plain r b (Some asked, new) a = refl
+  plain_by l body plain r b (None, new) a =
       let k = has_room peer_of row m l.peers small r.room in
-      let none : shown l ≡ 0 = none_count 64 (Free l) (λ j c. sym (plain j) ∙ a.1 k.0 j k.1 c) in
+      let none : shown l ≡ 0 = none_count 64 (Free l) (λ j c. sym (takes j) ∙ a.1 k.0 j k.1 c) in
       absurd (omega (arith, none, b))
     where
       bytes : List ℕ
-      bytes = unlabelled l here (block_read offset len)
+      bytes = unlabelled l here body
 
-      plain : (j : ℕ) → may_take l here bytes j ≡ Free l j
-      plain j =
-          ap (λ x. Free l j && (not x || not (is_last (last_for l.peers here j) (with_label j bytes)))) (read_plain l.node here offset len) ∙ and_true (Free l j)
+      takes : (j : ℕ) → may_take l here bytes j ≡ Free l j
+      takes j =
+          ap (λ x. Free l j && (not x || not (is_last (last_for l.peers here j) (with_label j bytes)))) (plain l.node) ∙ and_true (Free l j)
 
-  reads : (l : Node) (offset len : ℕ) → Roomy row l → 1 ≤ shown l → is_some (asking_step l here (block_read offset len) tt).0 ≡ true
-  reads l offset len r b = read_by l offset len r b (asking_step l here (block_read offset len) tt) (asks l here (block_read offset len) r.places)
+  plain_finds : (l : Node) (body : Body) → NoWrite body → Roomy row l → 1 ≤ shown l → is_some (asking_step l here body tt).0 ≡ true
+  plain_finds l body plain r b = plain_by l body plain r b (asking_step l here body tt) (asks l here body r.places)
 
   -- ---- of a layer that knows what its transactions are for
   module _ {P : Type 0} where
@@ -180,7 +183,7 @@ module _ (row : ℕ → ℕ) (m : ℕ) (small : m < 5) where
     abbrev Rooms : Layer P → Type 0
     Rooms layer = Roomy row (bare layer)
 
-    frees_are : (layer : Layer P) → Rooms layer → free_labels layer here ≡ shown (bare layer)
+    pub frees_are : (layer : Layer P) → Rooms layer → free_labels layer here ≡ shown (bare layer)
     frees_are layer r = sym (frees_bare layer here) ∙ frees_shown (bare layer) r
 
     bare_both : (r : Option Asked × Layer P) → ((bare_after same r).0 ≡ r.0) × ((bare_after same r).1 ≡ bare r.1)
@@ -203,11 +206,14 @@ module _ (row : ℕ → ℕ) (m : ℕ) (small : m < 5) where
         frees_are (disowning_step layer peer label) goes.roomy
         ∙ (same_count 64 (Free (bare (disowning_step layer peer label))) (Free (bare layer)) (λ j b. ap is_free (goes.alike.states j)) ∙ sym (frees_are layer r))
 
+    pub free_finds : (layer : Layer P) → Rooms layer → 1 ≤ free_labels layer here → (body : Body) → NoWrite body → (purpose : P) → is_some (asking_step layer here body purpose).0 ≡ true
+    free_finds layer r b body plain purpose =
+        let x = asking_step layer here body purpose in
+        let is = (takes_steps P).asks layer here body purpose in
+        ap (λ o. is_some o) (sym (ap (λ (y : Option Asked × Node). y.0) is ∙ (bare_both x).0)) ∙ plain_finds (bare layer) body plain r (subst (λ n. 1 ≤ n) (frees_are layer r) b)
+
     pub free_reads : (layer : Layer P) → Rooms layer → 1 ≤ free_labels layer here → (offset len : ℕ) (purpose : P) → is_some (asking_step layer here (block_read offset len) purpose).0 ≡ true
-    free_reads layer r b offset len purpose =
-        let x = asking_step layer here (block_read offset len) purpose in
-        let is = (takes_steps P).asks layer here (block_read offset len) purpose in
-        ap (λ o. is_some o) (sym (ap (λ (y : Option Asked × Node). y.0) is ∙ (bare_both x).0)) ∙ reads (bare layer) offset len r (subst (λ n. 1 ≤ n) (frees_are layer r) b)
+    free_reads layer r b offset len purpose = free_finds layer r b (block_read offset len) (λ node. read_plain node here offset len) purpose
 
 -- the free labels to a peer hang on the peers' places alone
 module _ {P : Type 0} (layer other : Layer P) (same_peers : other.peers ≡ layer.peers) where

@@ -104,7 +104,7 @@ module _ (row : ℕ → ℕ) where
 
   -- ---- of a layer that knows what its transactions are for
   module _ {P : Type 0} where
-    bare_first : (r : Option Asked × Layer P) → (bare_after same r).0 ≡ r.0
+    pub bare_first : (r : Option Asked × Layer P) → (bare_after same r).0 ≡ r.0
     bare_first (asked, after) = refl
 
     bare_second : (r : Option Asked × Layer P) → (bare_after same r).1 ≡ bare r.1

@@ -1,0 +1,15 @@
+pub mod Labels
+pub mod LabelsFound
+pub mod LabelsAsked
+pub mod Answers
+pub mod Rest
+pub mod RestStatuses
+pub mod LabelsFollowing
+pub mod RestServed
+pub mod Sights
+pub mod Operations
+pub mod Present
+pub mod Rung
+pub mod Nulls
+pub mod OperationsReplies
+pub mod Deaths
