@@ -1,5 +1,5 @@
 -- Each line of a world leaves the media as its notes say, and the places of the target's logins as the world says.
-use Rattle.std.proofs.Common.{◌≡◌, ◌∙◌, refl, sym, ap, subst, ℕ, ◌+◌, ◌-◌, ◌==◌, ◌||◌, not, nat_lt, Bool, true, false, cond, List, [], ◌∷◌, length, slice_index_or, Option, Some, None, Result, Ok, Err}
+use Rattle.std.proofs.Common.{◌≡◌, ◌∙◌, refl, sym, ap, subst, ℕ, ◌+◌, ◌-◌, ◌==◌, ◌||◌, not, nat_lt, Bool, true, false, cond, List, [], ◌∷◌, length, Option, Some, None, Result, Ok, Err}
 use Rattle.label_table.specs.declared.reply.Stale.{Stale}
 use Rattle.login_table.specs.Sound.{IsTable}
 use Rattle.packet_store.specs.declared.sent.Sent.{Sent}
@@ -9,8 +9,7 @@ use Rattle.rbc_disk.specs.Held.{Held}
 use Rattle.rbc_disk.specs.Runs.{Told}
 use Rattle.sbp_initiator.specs.declared.state.InitiatorState.{InitiatorState}
 use Rattle.sbp_initiator.specs.Acting.{act_step}
-use Rattle.sbp_initiator.specs.Initiators.{new_state}
-use Rattle.sbp_initiator.specs.Receiving.{expire_step, receive_step}
+use Rattle.sbp_initiator.specs.Receiving.{expire_step}
 use Rattle.sbp_initiator.specs.Seeing.{see_step}
 use Rattle.sbp_journal.specs.declared.cause.Judged.{Judged}
 use Rattle.sbp_journal.specs.declared.cause.Judged.TheVariants as judgements
@@ -26,7 +25,7 @@ use Rattle.sbp_target.specs.Receiving.{expired, with_key}
 use Rattle.sbp_world.specs.declared.parts.delivering.Arrival.{Arrival}
 use Rattle.sbp_bus.specs.declared.requests.Request.{Request}
 use Rattle.sbp_bus.specs.Packets.{judged_note, no_packet, end_note}
-use Rattle.sbp_world.specs.Delivering.{arrived, at_initiator, at_none, at_target, delivered, delivered_by, initiator_received, initiators_received, listed, marked, received_at, received_by, received_step, target_received}
+use Rattle.sbp_world.specs.Delivering.{arrived, at_initiator, at_none, at_target, delivered, delivered_by, initiator_received, initiators_received, marked, received_at, received_by, received_step, target_received}
 use Rattle.sbp_bus.specs.Generations.{id_of}
 use Rattle.sbp_world.specs.Handing.{handed_out}
 use Rattle.sbp_world.specs.Lines.{acted, acted_by, happens, happens_to, keyed, no_unit, weight_in}
@@ -39,6 +38,7 @@ use Rattle.sbp_world.specs.Settling.{after_all, delivered_at, delivered_next, is
 use Rattle.sbp_world.specs.Worlds.{Scene, WorldState, begun, initiator_at, with_initiator, with_note, with_target}
 use Rattle.sbp_world.proofs.Formed.{AreOwn}
 use Rattle.sbp_world.proofs.InitiatorForms as initiators
+use Rattle.sbp_world.proofs.InitiatorForms.{initiators_own}
 use Rattle.media_laws.specs.Media.{media_after}
 use Rattle.media_laws.proofs.Ledgers.{Ledger, after_sides, hands_out, hands_target, ledger, ledger_in, posts, seats_in, target_posts}
 use Rattle.media_laws.proofs.Owned.{own_leave}
@@ -106,15 +106,6 @@ own_tracks : (start : Held) (s : Scene) (outbox : OutboxState) → AreOwn outbox
 own_tracks start s outbox o h = record { told = own_leave outbox.sides (ledger_in s.world start) o ∙ h.told; sound = h.sound; desks = h.desks }
 
 -- ---- a delivery
-
-listed_own : (i : ℕ) (r : Judged × (OutboxState × InitiatorState)) (states : List InitiatorState) → AreOwn r.1.0.sides → AreOwn (listed i r states).1.0.sides
-listed_own i (judged, (outbox, state)) states h = h
-
-initiators_own : (i : ℕ) (sent : Sent) (states : List InitiatorState) → AreOwn (initiators_received i sent states).1.0.sides
-unfolding initiators_received
-initiators_own i sent states =
-    let s = slice_index_or states i (new_state 0 false) in
-    listed_own i (receive_step sent.generation sent.bytes empty_outbox s) states (initiators.receives sent.generation sent.bytes empty_outbox s tt)
 
 abbrev Arrives : Held → Option Arrival × (OutboxState × Scene) → Type 0
 Arrives start (None, (outbox, t)) = Agrees start t

@@ -14,12 +14,13 @@ use Rattle.sbp_bus.specs.Places.{new_places}
 use Rattle.sbp_world.specs.Runs.{AreEntries, Entry, Run, after, beginning, first_scene}
 use Rattle.sbp_world.specs.Worlds.{Scene}
 use Rattle.media_terms.specs.Media.{notes_in}
-use Rattle.media_laws.specs.Media.{LeavesMedia, left_by_note, media_after}
+use Rattle.media_laws.specs.Media.{LeavesMedia, media_after}
 use Rattle.media_laws.specs.Runs.{DisksLaw}
 use Rattle.media_laws.proofs.Folds.{leaves_media}
 use Rattle.media_laws.proofs.Ledgers.{ledger, seats_in}
 use Rattle.media_laws.proofs.Lines.{Agrees, line_agrees, media_is}
 use Rattle.media_laws.proofs.Tables.{seats_of}
+pub use Rattle.media_terms.proofs.Folds.{after_both}
 
 -- ---- how a run begins
 
@@ -50,10 +51,6 @@ begins initiators ready units start few = record {
 }
 
 -- ---- the lines
-
-pub after_both : (later before : List Note) (media : Held) → media_after (later ++ before) media ≡ media_after later (media_after before media)
-after_both [] before media = refl
-after_both (note ∷ later) before media = ap (left_by_note note) (after_both later before media)
 
 -- the scene after some lines, beside what the media held before its last line
 record Stands (first : Scene) (entries : List Entry) : Type 0 where

@@ -1,5 +1,5 @@
 -- The disk fold of the laws holds, medium by medium, what the notes of the runs leave.
-use Rattle.std.proofs.Common.{◌≡◌, ◌∙◌, refl, sym, ap, ℕ, ◌==◌, not, Bool, true, false, cond, List, [], ◌∷◌, set, Option, Some, None, Result, Ok, Err}
+use Rattle.std.proofs.Common.{◌≡◌, ◌∙◌, refl, sym, ap, ℕ, ◌==◌, not, Bool, true, false, cond, List, [], ◌∷◌, ◌++◌, set, Option, Some, None, Result, Ok, Err}
 use Rattle.std.proofs.Math.ListN.{get_or-map}
 use Rattle.std.proofs.Math.Seq.{map-set_same}
 use Rattle.std.proofs.lemmas.List.{map-set}
@@ -33,6 +33,11 @@ use Rattle.sbp_laws.specs.Turns.{event_of}
 use Rattle.sbp_laws.specs.Targets.{Decided, Purpose, Reply, Target, effect_on, enters_in, entered_by, for_agent, for_manager, for_nobody, going_on, got_by, key_by, known_at, managed_by, manager_step, over, register_got, replied_to, request_got, reset_seen, sent_as, sent_for, start_got, started_by, taken_on, target_at, target_by, is_own_run, ran_on}
 use Rattle.sbp_laws.proofs.Going.{going_alone, run_alone, taken_alone}
 use Rattle.media_terms.specs.Media.{MediaFoldLaw, left_by_note, media_after, media_of, notes_in}
+
+-- the notes of one stretch of a history behind those of another
+pub after_both : (later before : List Note) (media : Held) → media_after (later ++ before) media ≡ media_after later (media_after before media)
+after_both [] before media = refl
+after_both (note ∷ later) before media = ap (left_by_note note) (after_both later before media)
 
 -- ---- what leaves the units
 

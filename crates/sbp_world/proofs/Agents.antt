@@ -85,3 +85,5 @@ pub mod AskedPackets
 pub mod Waited
 pub mod AskedAgents
 pub mod AskedRuns
+pub mod OtherLabels
+pub mod FreeLabels

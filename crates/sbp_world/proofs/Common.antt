@@ -1,6 +1,8 @@
 -- What many proofs of this crate cite of truth values, numbers, options and lists, and of nothing else.
-use Rattle.sbp_world.proofs.Words.Std.{arith, ◌≡◌, refl, sym, ap, ℕ, ◌<◌, ◌≤◌, nat_eq, nat_lt, ◌==◌, ◌&&◌, Bool, true, false, cond, List, [], ◌∷◌, ◌++◌, map, length, Option, Some, None, false≢true, nat_tests, none-some}
+use Rattle.sbp_world.proofs.Words.Std.{arith, ◌≡◌, refl, sym, ap, ℕ, suc, ◌<◌, ◌≤◌, nat_eq, nat_lt, ◌==◌, ◌&&◌, Bool, true, false, cond, List, [], ◌∷◌, ◌++◌, map, length, Option, Some, None, false≢true, nat_tests, none-some}
+pub use Rattle.sbp_target.proofs.Requests.Telling.{or_left, or_right}
 use Rattle.sbp_world.proofs.Words.Wire.{Moment, said, Note}
+use Rattle.sbp_world.proofs.Words.Laws.{is_serial}
 use Rattle.sbp_world.proofs.Words.World.{DeliversMore, more_deliveries}
 
 -- ---- what is not
@@ -21,6 +23,15 @@ and_first false b e = e
 pub and_second : (a b : Bool) → (a && b) ≡ true → b ≡ true
 and_second true b e = e
 and_second false b e = untrue e
+
+pub all_three : (a b c : Bool) → a ≡ true → b ≡ true → c ≡ true → (a && b && c) ≡ true
+all_three true true c e f g = g
+all_three true false c e f g = untrue f
+all_three false b c e f g = untrue e
+
+pub not_true : (b : Bool) → (b ≡ true → ⊥) → b ≡ false
+not_true true never = absurd (never refl)
+not_true false never = refl
 
 pub cond_on : {A : Type 0} (b : Bool) (x y : A) → b ≡ true → cond b x y ≡ x
 cond_on true x y e = refl
@@ -46,11 +57,22 @@ equal_numbers a b e = grind (arith, nat_tests)
 pub turned : (a b : ℕ) → nat_eq a b ≡ false → nat_eq b a ≡ false
 turned a b e = grind (arith, nat_tests)
 
+pub above : (m n most : ℕ) → n < most → most ≤ m → nat_eq m n ≡ false
+above m n most l h = grind (arith, nat_tests)
+
 pub is_inside : (m n : ℕ) → m < n → nat_lt m n ≡ true
 is_inside m n l = grind arith
 
 pub least : (n m : ℕ) → m ≡ n → n ≤ m
 least n m e = omega arith
+
+-- the nodes of initiators
+pub same_node : (i j : ℕ) → Some (suc i) ≡ Some (suc j) → i ≡ j
+same_node i j e = cc
+
+pub serial_is : (found : Option ℕ) (serial : ℕ) → is_serial found serial ≡ true → found ≡ Some serial
+serial_is None serial e = untrue e
+serial_is (Some other) serial e = ap (λ n. Some n) (equal other serial e)
 
 -- ---- lists
 pub no_bytes : (bytes : List ℕ) → length bytes ≡ 0 → bytes ≡ []

@@ -3,7 +3,6 @@ pub mod Settling
 pub mod Sums
 pub mod TargetSums
 pub mod DueDemands
-pub mod News
 pub mod Unjudged
 pub mod BringsOrbs
 pub mod BringsPlaces
@@ -19,6 +18,10 @@ pub mod Worked
 pub mod Grown
 pub mod Tells
 pub mod Turns
+pub mod BegunTurns
+pub mod NewTurns
+pub mod RoomTurns
+pub mod PresentTurns
 pub mod Start
 pub mod Others
 pub mod Places

@@ -119,6 +119,7 @@ pub mod ByteHears
 pub mod ByteActs
 pub mod ByteAnswers
 pub mod ByteStarts
+pub mod HostReads
 pub mod HostRows
 pub mod Fair
 pub mod ByteRuns
@@ -137,3 +138,4 @@ pub mod GatherPlaces
 pub mod Gathers
 pub mod Gathered
 pub mod Statuses
+pub mod PresentOrbs

@@ -1,8 +1,8 @@
 -- What an initiator tells in each call: notes of its own, which have the form of a journal, and none of which is of a run.
-use Rattle.sbp_world.proofs.Words.Std.{◌≡◌, refl, ℕ, ◌==◌, ◌&&◌, nat_lt, nat_eq, Bool, true, false, cond, List, [], ◌∷◌, length, take, replicate, Option, Some, None, Result, Ok, Err, arith, big_bytes}
-use Rattle.sbp_world.proofs.Words.Wire.{LabelParts, Packet, header_in, lock, read_block, read_block_response, read_quadlet, read_quadlet_response, lock_response, write_block, write_quadlet, write_response, Asked, Stale, Layer, Finding, of_generation, of_grammar, of_label, of_response, of_again, of_request, answering_step, asking_step, expiring_step, judging_step, seeing_step, Judged, Action, Cmd, Note, NoteBuffer, Nothing, In, Operation, OpWord, buffer_of, in_buffer, out_buffer, HasForm, IsAnswer, IsBuffer, OutboxState}
+use Rattle.sbp_world.proofs.Words.Std.{◌≡◌, refl, ℕ, ◌==◌, ◌&&◌, nat_lt, nat_eq, Bool, true, false, cond, List, [], ◌∷◌, length, take, replicate, Option, Some, None, Result, Ok, Err, arith, big_bytes, slice_index_or}
+use Rattle.sbp_world.proofs.Words.Wire.{LabelParts, Packet, header_in, lock, read_block, read_block_response, read_quadlet, read_quadlet_response, lock_response, write_block, write_quadlet, write_response, Asked, Stale, Layer, Finding, of_generation, of_grammar, of_label, of_response, of_again, of_request, answering_step, asking_step, expiring_step, judging_step, seeing_step, Judged, Action, Cmd, Note, NoteBuffer, Nothing, In, Operation, OpWord, buffer_of, in_buffer, out_buffer, HasForm, IsAnswer, IsBuffer, OutboxState, Sent, empty_outbox}
 use Rattle.sbp_world.proofs.Words.Target.{RomFault, SbpUnit, Tree, reading, sbp_unit_of, is_block}
-use Rattle.sbp_world.proofs.Words.Initiator.{read_step, OrbFault, StatusBlock, StatusKind, PresentList, TicketParts, find_in, bad, conflict, Fifo, Demand, Ending, Purpose, Running, InitiatorState, ListState, drop_lists, high_lists, low_lists, take_lists, write_lists, put_lists, ends_list, refusal, counts_for, ending_of, status_in, is_stuck_seat, Turn, ask_quad, asked_quad, conflict_for, conflict_step, doorbell_ended, drop_list_step, drop_where, dropped_as, enable_ended, end_own_for, end_own_step, end_step, ended_for, ended_step, fail_step, fault_number, finish_rom, good_end, good_event, good_word, is_address, is_conflict, known_where, managed_step, management_ended, moved, next_quad, pointer_ended, quad_got, reset_ended, response_of, rom_ended, state_ended, state_told, stick_step, then_step, told, with_dead, with_rom, with_unit, with_quad, act_step, append_step, asked_as, asked_for, demand_of, demanded_as, done_step, dummy_for, facts_with, judged_as, link_as, link_step, login_id, low_as, low_step, put_as, put_step, ring_for, addressed, answer_of, block_at, block_by, block_step, called, expire_step, expired_as, fifo_of, got_step, ignored_step, is_foreign, managed_for, present_for, quadlet_at, read_as, receive_step, received, request_step, respond_step, responded_as, serve_step, status_step, taken_as, taken_by, written_as, all_end, interrupted, reset_step, reset_told, resets_told, see_step, seen_as, states_end}
+use Rattle.sbp_world.proofs.Words.Initiator.{read_step, OrbFault, StatusBlock, StatusKind, PresentList, TicketParts, find_in, bad, conflict, Fifo, Demand, Ending, Purpose, Running, InitiatorState, ListState, drop_lists, high_lists, low_lists, take_lists, write_lists, put_lists, ends_list, refusal, counts_for, ending_of, status_in, is_stuck_seat, Turn, ask_quad, asked_quad, conflict_for, conflict_step, doorbell_ended, drop_list_step, drop_where, dropped_as, enable_ended, end_own_for, end_own_step, end_step, ended_for, ended_step, fail_step, fault_number, finish_rom, good_end, good_event, good_word, is_address, is_conflict, known_where, managed_step, management_ended, moved, next_quad, pointer_ended, quad_got, reset_ended, response_of, rom_ended, state_ended, state_told, stick_step, then_step, told, with_dead, with_rom, with_unit, with_quad, act_step, append_step, asked_as, asked_for, demand_of, demanded_as, done_step, dummy_for, facts_with, judged_as, link_as, link_step, login_id, low_as, low_step, put_as, put_step, ring_for, addressed, answer_of, block_at, block_by, block_step, called, expire_step, expired_as, fifo_of, got_step, ignored_step, is_foreign, managed_for, present_for, quadlet_at, read_as, receive_step, received, request_step, respond_step, responded_as, serve_step, status_step, taken_as, taken_by, written_as, all_end, interrupted, reset_step, reset_told, resets_told, see_step, seen_as, states_end, new_state}
 use Rattle.orb_layout.specs.declared.status.StatusKind.TheVariants as kinds
 use Rattle.sbp_journal.specs.declared.cause.Cause.TheVariants as ignored
 use Rattle.sbp_journal.specs.declared.event.Action.TheVariants as actions
@@ -15,6 +15,7 @@ use Rattle.sbp_initiator.specs.declared.purpose.Ending.TheVariants as endings
 use Rattle.sbp_initiator.specs.declared.purpose.Purpose.TheVariants as purposes
 use Rattle.sbp_world.proofs.BlockForms.{IsKeyed, IsRead, block_keyed, ok_keyed}
 use Rattle.sbp_world.proofs.Formed.{AreOwn, IsNoRun, own_more, pick_outbox}
+use Rattle.sbp_world.specs.Delivering.{initiators_received, listed}
 
 abbrev pub At : Turn → Type 0
 At t = AreOwn t.0.sides
@@ -392,3 +393,13 @@ judges_as None action o s h = demands_as (demand_of action s) action o s h
 pub acts : (action : Action) (o : OutboxState) (s : InitiatorState) → AreOwn o.sides → At (act_step action o s).1
 unfolding act_step
 acts action o s h = judges_as (refusal action (facts_with true s action)) action o s h
+
+-- ---- among the initiators
+listed_own : (i : ℕ) (r : Judged × Turn) (states : List InitiatorState) → At r.1 → AreOwn (listed i r states).1.0.sides
+listed_own i (judged, (outbox, state)) states h = h
+
+pub initiators_own : (i : ℕ) (sent : Sent) (states : List InitiatorState) → AreOwn (initiators_received i sent states).1.0.sides
+unfolding initiators_received
+initiators_own i sent states =
+    let s = slice_index_or states i (new_state 0 false) in
+    listed_own i (receive_step sent.generation sent.bytes empty_outbox s) states (receives sent.generation sent.bytes empty_outbox s tt)

@@ -1,8 +1,8 @@
 -- The initiators at the start, one after the other.
 use Rattle.sbp_world.proofs.Words.Std.{arith, common_steps}
 use Rattle.sbp_world.proofs.Words.Initiator.{new_state}
-use Rattle.sbp_world.proofs.Words.World.{new_initiators}
-use Rattle.std.specs.Prelude.{◌≡◌, ℕ, zero, suc, Bool, [], ◌∷◌, ◌++◌, length, refl}
+use Rattle.sbp_world.proofs.Words.World.{new_initiators, ready_logins}
+use Rattle.std.specs.Prelude.{◌≡◌, ℕ, ◌<◌, zero, suc, Bool, true, false, [], ◌∷◌, ◌++◌, length, refl}
 
 pub initiators_none : (n : ℕ) (ready : Bool) → n ≡ zero → new_initiators n ready ≡ []
 unfolding new_initiators
@@ -18,3 +18,8 @@ pub initiators_size : (n : ℕ) (ready : Bool) → length (new_initiators n read
 unfolding new_initiators
 initiators_size zero ready = refl
 initiators_size (suc n) ready = let s = initiators_size n ready in grind (arith, common_steps)
+
+-- those that have a login are among them
+pub ready_few : (n : ℕ) (ready : Bool) (i : ℕ) → i < ready_logins n ready → i < n
+ready_few n true i l = l
+ready_few n false i l = absurd (omega arith)

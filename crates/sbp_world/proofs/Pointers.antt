@@ -4,6 +4,7 @@ pub mod PendActs
 pub mod Ages
 pub mod Names
 pub mod Finds
+pub mod Leaving
 pub mod Passing
 pub mod Dropping
 pub mod Waits

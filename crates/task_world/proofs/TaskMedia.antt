@@ -31,6 +31,7 @@ use Rattle.task_world.specs.Runs.{AreEntries, IsTaskRun, after}
 use Rattle.task_world.specs.Worlds.{TaskScene, begun}
 use Rattle.task_world.proofs.MediaSides.{AreTold, IsTold, after_sides, beside, by_side}
 use Rattle.task_world.proofs.TaskPass.{Kept, first_count, first_disk, line_keeps}
+use Rattle.media_terms.proofs.Folds.{after_both}
 
 -- ---- what is told, and the notes that it gives
 
@@ -133,10 +134,6 @@ module _ (disks : List Disk) (faults : List ℕ) where
 
   -- ---- the lines
 
-  after_both : (later before : List Note) (media : Held) → media_after (later ++ before) media ≡ media_after later (media_after before media)
-  after_both [] before media = refl
-  after_both (note ∷ later) before media = ap (left_by_note note) (after_both later before media)
-
   after_said : (told : List Note) (past : List Moment) (media : Held) → media_after (notes_in (map said told ++ past)) media ≡ media_after told (media_after (notes_in past) media)
   after_said [] past media = refl
   after_said (note ∷ told) past media = ap (left_by_note note) (after_said told past media)
@@ -236,7 +233,7 @@ run_notes : (run : Run) (media : Held) → IsTaskRun run → run.start ≡ first
 run_notes run media r e =
     let begin = notes_begin run.initiators run.ready ∷ [] in
     media_are (notes_of run) run.start (left_by_run run)
-    (λ disks faults. (run_stands disks faults 0 run r).notes ∙ sym (after_both disks faults (notes_behind run.entries) begin (all_of disks faults run.start)))
+    (λ disks faults. (run_stands disks faults 0 run r).notes ∙ sym (after_both (notes_behind run.entries) begin (all_of disks faults run.start)))
     media e
 
 run_history : (line : ℕ) (run : Run) (media : Held) → IsTaskRun run → run.start ≡ first_of media → with_first (left_by_run run) media ≡ media_after (notes_in (history_of line run)) media

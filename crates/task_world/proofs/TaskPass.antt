@@ -1,6 +1,6 @@
 -- Each line of a task world is notes of the bus and what its nodes hand out, which says what becomes of the medium: what these keep, every
 -- line keeps.
-use Rattle.std.proofs.Common.{◌≡◌, refl, ℕ, ◌+◌, ◌-◌, ◌==◌, ◌||◌, not, nat_lt, Bool, true, false, cond, List, [], ◌∷◌, length, slice_index_or, Option, Some, None, Result, Ok, Err}
+use Rattle.std.proofs.Common.{◌≡◌, refl, ℕ, ◌+◌, ◌-◌, ◌==◌, ◌||◌, not, nat_lt, Bool, true, false, cond, List, [], ◌∷◌, length, Option, Some, None, Result, Ok, Err}
 use Rattle.std.specs.Prelude.{slice_index}
 use Rattle.label_table.specs.declared.reply.Stale.{Stale}
 use Rattle.packet_store.specs.declared.sent.Sent.{Sent}
@@ -11,8 +11,7 @@ use Rattle.rbc_disk.specs.Held.{Held}
 use Rattle.rbc_disk.specs.Runs.{Told}
 use Rattle.sbp_initiator.specs.declared.state.InitiatorState.{InitiatorState}
 use Rattle.sbp_initiator.specs.Acting.{act_step}
-use Rattle.sbp_initiator.specs.Initiators.{new_state}
-use Rattle.sbp_initiator.specs.Receiving.{expire_step, receive_step}
+use Rattle.sbp_initiator.specs.Receiving.{expire_step}
 use Rattle.sbp_journal.specs.declared.cause.Judged.{Judged}
 use Rattle.sbp_journal.specs.declared.cause.Judged.TheVariants as judgements
 use Rattle.sbp_journal.specs.declared.event.Action.{Action}
@@ -26,7 +25,7 @@ use Rattle.sbp_bus.specs.declared.requests.Request.{Request}
 use Rattle.sbp_bus.specs.Packets.{end_note, judged_note, no_packet}
 use Rattle.sbp_bus.specs.Requests.{find}
 use Rattle.sbp_world.specs.declared.parts.delivering.Arrival.{Arrival}
-use Rattle.sbp_world.specs.Delivering.{arrived, at_initiator as comes_to_initiator, at_none, initiator_received, initiators_received, listed}
+use Rattle.sbp_world.specs.Delivering.{arrived, at_initiator as comes_to_initiator, at_none, initiator_received, initiators_received}
 use Rattle.sbp_world.specs.Handing.{handed_out}
 use Rattle.sbp_world.specs.Lines.{acted, acted_by, weight_in}
 use Rattle.sbp_world.specs.Packets.{at_initiator, initiator_expires, is_in_flight, lose_line, lost, may_repeat, refused}
@@ -34,6 +33,7 @@ use Rattle.sbp_world.specs.Settling.{is_settled, lowest}
 use Rattle.sbp_world.specs.Worlds.{Scene, WorldState, initiator_at, with_initiator, with_note}
 use Rattle.sbp_world.proofs.Formed.{AreOwn}
 use Rattle.sbp_world.proofs.InitiatorForms as initiators
+use Rattle.sbp_world.proofs.InitiatorForms.{initiators_own}
 use Rattle.media_terms.specs.Media.{left_by_note}
 use Rattle.task_target.specs.Nodes.{TaskNode}
 use Rattle.task_target.specs.Nodes as target
@@ -86,15 +86,6 @@ node_turns told sent old media m =
     let count = first_count media in
     left_turns (received told sent.generation sent.bytes (whole_of old media)) media (count_behind told sent old media)
     (receives disk count told sent.generation sent.bytes (whole_of old media) count (count_behind told sent old media) m (nothing disk count))
-
-listed_own : (i : ℕ) (r : Judged × (OutboxState × InitiatorState)) (states : List InitiatorState) → AreOwn r.1.0.sides → AreOwn (listed i r states).1.0.sides
-listed_own i (judged, (outbox, state)) states h = h
-
-initiators_own : (i : ℕ) (sent : Sent) (states : List InitiatorState) → AreOwn (initiators_received i sent states).1.0.sides
-unfolding initiators_received
-initiators_own i sent states =
-    let s = slice_index_or states i (new_state 0 false) in
-    listed_own i (receive_step sent.generation sent.bytes empty_outbox s) states (initiators.receives sent.generation sent.bytes empty_outbox s tt)
 
 -- the task node expires a request: nothing is said of the medium
 left_own : (r : Result (Unit {0}) Stale × target.Scene) (old : TaskNode) (disk : Disk) (count : ℕ) → Tells disk count disk count r.1.outbox.sides → Tells disk count disk count (node_left r old).1.0.sides
@@ -150,10 +141,6 @@ module _ (P : WorldState → Disk → ℕ → Type 0) (kept : Kept P) where
   abbrev ArrivesThere : Held → Option Arrival × (OutboxState × Scene) → Type 0
   ArrivesThere before (None, (outbox, t)) = At t.world t.media
   ArrivesThere before (Some a, (outbox, t)) = Comes before outbox t.world t.media
-
-  arrives_if : (b : Bool) (before : Held) (x y : Option Arrival × (OutboxState × TaskScene)) → (b ≡ true → Arrives before x) → (b ≡ false → Arrives before y) → Arrives before (cond b x y)
-  arrives_if true before x y h i = h refl
-  arrives_if false before x y h i = i refl
 
   there_if : (b : Bool) (before : Held) (x y : Option Arrival × (OutboxState × Scene)) → ArrivesThere before x → ArrivesThere before y → ArrivesThere before (cond b x y)
   there_if true before x y h i = h

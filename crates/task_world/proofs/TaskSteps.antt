@@ -19,7 +19,7 @@ use Rattle.unordered_agent.specs.declared.fetcher.FetchPhase.{FetchPhase}
 use Rattle.unordered_agent.specs.declared.fetcher.FetchPhase.TheVariants as phases
 use Rattle.unordered_agent.specs.declared.step.TaskStep.{TaskStep}
 use Rattle.unordered_agent.specs.Machine.{TaskMachine, is_busy, lowest_free, task_at}
-use Rattle.unordered_agent.specs.Steps.{fetch_replied, freed, next_read, or_none, orb_read, place_of, reply_step, status_written, task_replied, worked}
+use Rattle.unordered_agent.specs.Steps.{fetch_replied, next_read, or_none, orb_read, place_of, reply_step, status_written, task_replied, worked}
 use Rattle.task_target.specs.Following.{Fails, about, failed_step}
 use Rattle.task_target.proofs.Failing.{failed_silent}
 
@@ -52,10 +52,6 @@ fetched_suits : (phase : FetchPhase) (s : TaskMachine) (login : ℕ) (plain : Pl
 fetched_suits phases.Fetching s login plain told answer = read_suits s login plain told answer (lowest_free s.tasks)
 fetched_suits phases.ReadingNext s login plain told answer = next_suits s (payload_of answer 8)
 fetched_suits _ s login plain told answer = record { is = tt }
-
-freed_suits : (phase : FetchPhase) (s : TaskMachine) → Suits (freed phase s).0
-freed_suits phases.Waiting s = record { is = tt }
-freed_suits _ s = record { is = tt }
 
 written_suits : (phase : FetchPhase) (s : TaskMachine) (place : ℕ) (failure : Option FailCause) → Suits (status_written phase s place failure).0
 written_suits phases.Dead s place failure = record { is = tt }

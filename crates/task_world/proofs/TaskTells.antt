@@ -1,5 +1,5 @@
 -- What the task node tells in each call, and that what it leaves of the medium of its unit is what this says.
-use Rattle.std.proofs.Common.{◌≡◌, refl, sym, subst, ℕ, ◌&&◌, Bool, true, false, cond, List, [], ◌∷◌, Option, Some, None, Result, Ok, Err}
+use Rattle.std.proofs.Common.{◌≡◌, refl, sym, subst, ℕ, Bool, true, false, cond, List, [], ◌∷◌, Option, Some, None, Result, Ok, Err}
 use Rattle.async_packet.specs.Labels.{LabelParts}
 use Rattle.async_packet.specs.Packet.{Packet, header_in}
 use Rattle.label_table.specs.declared.judgement.Asked.{Asked}
@@ -31,6 +31,7 @@ use Rattle.target_base.specs.declared.address.Demand.TheVariants as demands
 use Rattle.target_base.specs.Addresses.{demand_of}
 use Rattle.target_base.specs.Logins.{is_barred}
 use Rattle.sbp_world.proofs.AgentForms.{FitsEnd, FitsRun}
+use Rattle.sbp_world.proofs.Common.{and_second}
 use Rattle.unordered_agent.specs.declared.step.TaskStep.{TaskStep}
 use Rattle.unordered_agent.specs.Machine.{TaskMachine, is_busy, state_in, task_at}
 use Rattle.unordered_agent.specs.Steps.{doorbell_step, place_of, point_step}
@@ -53,11 +54,6 @@ no_run : (place : Option ℕ) (m : TaskMachine) (ran : Option Outcome) (o : Outb
 no_run None m ran o e = refl
 no_run (Some place) m None o e = refl
 no_run (Some place) m (Some outcome) o e = absurd (let no : Some outcome ≡ None = e in cc)
-
--- what waits for a transaction of a place has one under way there
-awaited : (that busy : Bool) → (that && busy) ≡ true → busy ≡ true
-awaited true busy e = e
-awaited false busy e = absurd (let no : false ≡ true = e in cc)
 
 module _ (disk : Disk) (count : ℕ) (left : Disk) (now : ℕ) where
   abbrev Says : OutboxState → Type 0
@@ -265,7 +261,7 @@ Leaves disk count now w = Tells disk count w.disk now w.outbox.sides
 abbrev advanced : ℕ → Login → TaskStep × TaskMachine → Whole → Whole
 advanced place login made w = advanced_with place login (replied_with place made (stage w.node w.disk)) w
 
--- where a reply is awaited a transaction of the place is under way
+-- where a reply is and_second a transaction of the place is under way
 abbrev Waits : Bool → ℕ → Whole → Type 0
 Waits b place w = b ≡ true → is_busy place w.node.agent ≡ true
 
@@ -317,7 +313,7 @@ module _ (disk : Disk) (count : ℕ) where
   concludes told None peer label answer w before now t h = subst (λ (n : ℕ). Leaves disk count n w) (sym t.counted) h
   concludes told (Some purpose) peer label answer w before now t h =
       let place = purpose.place in
-      replies_by told place answer (served_login w.node) (awaits w.node place peer label) w before now (awaited (is_that (sent_at w.node place) peer label) (is_busy place w.node.agent)) t h
+      replies_by told place answer (served_login w.node) (awaits w.node place peer label) w before now (and_second (is_that (sent_at w.node place) peer label) (is_busy place w.node.agent)) t h
 
   -- ---- a packet
 

@@ -41,7 +41,7 @@ use Rattle.turn_laws.proofs.FirstLayers.{IsBehind}
 use Rattle.turn_laws.proofs.FollowEnds.{no_label}
 use Rattle.turn_laws.proofs.FollowSends.{requests}
 use Rattle.turn_laws.proofs.FoundLabels.{Spells}
-use Rattle.turn_laws.proofs.FreeLabels.{KnowsLabels}
+use Rattle.sbp_world.proofs.Agents.FreeLabels.{KnowsLabels}
 use Rattle.turn_laws.proofs.ReadAheads.{MayReadAhead}
 use Rattle.turn_laws.proofs.TurnCounts.{pushed_in}
 use Rattle.turn_laws.proofs.TurnSends.{SendsOwn}

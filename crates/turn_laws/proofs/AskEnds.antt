@@ -82,7 +82,7 @@ use Rattle.sbp_world.proofs.Lists.StatusReads.{answer_reads}
 use Rattle.sbp_world.proofs.Lists.StatusSteps.{none_wrote}
 use Rattle.turn_laws.proofs.FirstLayers.{IsBehind}
 use Rattle.turn_laws.proofs.FoundLabels.{Spells, asked_labels, peer_is, request_finds, request_spells, i as held_i}
-use Rattle.turn_laws.proofs.FreeLabels.{KnowsLabels}
+use Rattle.sbp_world.proofs.Agents.FreeLabels.{KnowsLabels}
 use Rattle.turn_laws.proofs.ReadAheads.{none_ahead}
 use Rattle.turn_laws.proofs.Handed.{handed}
 use Rattle.turn_laws.proofs.OnlyAnswers.{answered_alone, from_there, one_due}

@@ -81,7 +81,7 @@ use Rattle.sbp_world.proofs.Agents.CrewFirsts.{access_there, agrees}
 use Rattle.sbp_world.proofs.Agents.Hiring.{reply_hires}
 use Rattle.sbp_world.proofs.Agents.Management.Holding.{good_of}
 use Rattle.sbp_world.proofs.Formed.{AreOwn, IsNoRun}
-use Rattle.sbp_world.proofs.Agents.Management.Sights.{ages, seen_test}
+use Rattle.sbp_world.proofs.Agents.Management.Sights.{ages}
 use Rattle.sbp_world.proofs.Agents.Management.Still.{hist}
 use Rattle.sbp_world.proofs.Lists.OpenOwners.{served_initiator}
 use Rattle.sbp_world.proofs.Lists.SendsLeave.{beyond_down}
@@ -97,6 +97,7 @@ use Rattle.turn_laws.proofs.Pass.{of_every_run}
 use Rattle.turn_laws.proofs.Places.{Place}
 use Rattle.turn_laws.proofs.RequestEvents.{quadlet_writes}
 use Rattle.sbp_world.proofs.Agents.Demands.{none_some}
+use Rattle.sbp_world.proofs.Hosts.Knows.{seen_test}
 
 no_own : (note : Note) → IsNoRun note → is_cut_note note ≡ false
 no_own (notes.Cut i list cause) h = absurd h

@@ -22,10 +22,10 @@ use Rattle.sbp_laws.specs.Turns.{turn}
 use Rattle.sbp_world.specs.Agents.Management.Offices.{Office}
 use Rattle.sbp_world.specs.Lists.Contents.{AreAsked, WasAsked}
 use Rattle.sbp_world.specs.Worlds.{Scene}
-use Rattle.sbp_world.proofs.Agents.Handed.{is_its_serial}
 use Rattle.sbp_world.proofs.Agents.Management.Holding.{past_terms}
 use Rattle.sbp_world.proofs.Agents.Management.Offices.{over_keeps}
 use Rattle.sbp_world.proofs.Agents.Management.Still.{hist}
+use Rattle.sbp_world.proofs.Common.{serial_is}
 use Rattle.sbp_world.proofs.Lists.ContentManages.{bound}
 use Rattle.sbp_world.proofs.Lists.OrbsRead.{access_there}
 use Rattle.sbp_world.proofs.Wire.Starts.{laws_of}
@@ -64,7 +64,7 @@ pub record Answers (T : Target) (r : ℕ) (told answer : Answer) : Type 0 where
   pub is : told ≡ answer
 
 of_manager : (T : Target) (r : ℕ) → purpose_of T r ≡ for_manager → T.manages ≡ Some r
-of_manager T r e = is_its_serial T.manages r (by (is_serial T.manages r) e)
+of_manager T r e = serial_is T.manages r (by (is_serial T.manages r) e)
   where
     by : (b : Bool) → cond b for_manager (purpose_among 0 T.agents r) ≡ for_manager → b ≡ true
     by true f = refl

@@ -26,8 +26,8 @@ use Rattle.sbp_target.specs.Nodes.{NodeState, Scene, desk_at}
 use Rattle.sbp_target.specs.Sending.{request_step, sent_by}
 use Rattle.sbp_world.proofs.Agents.Walk.{Holds, notes_hold}
 use Rattle.turn_laws.proofs.FoundLabels.{Spells}
-use Rattle.turn_laws.proofs.FreeLabels.{KnowsLabels, asked_frees, dropped_frees, free_reads}
-use Rattle.turn_laws.proofs.OtherLabels.{Roomy, room_asked, room_disowned}
+use Rattle.sbp_world.proofs.Agents.FreeLabels.{KnowsLabels, asked_frees, dropped_frees, free_reads}
+use Rattle.sbp_world.proofs.Agents.OtherLabels.{Roomy, room_asked, room_disowned}
 use Rattle.turn_laws.proofs.StepLabels.{disowned_asks, finds_in}
 
 -- what a step gives up

@@ -40,7 +40,7 @@ use Rattle.sbp_world.proofs.Agents.Management.Still.{hist}
 use Rattle.sbp_world.proofs.Wire.Asks.{upd_own}
 use Rattle.sbp_world.proofs.Wire.Found.{node_found}
 use Rattle.sbp_world.proofs.Wire.Holding.{latest_small}
-use Rattle.turn_laws.proofs.FreeLabels.{KnowsLabels, knows_peers, knows_then, labels_at}
+use Rattle.sbp_world.proofs.Agents.FreeLabels.{KnowsLabels, knows_peers, knows_then, labels_at}
 use Rattle.turn_laws.proofs.RequestLabels.{AreOf, bytes_at, finds_at}
 use Rattle.turn_laws.proofs.StepLabels.{finds_in, peers_ask}
 use Rattle.turn_laws.proofs.Places.{Place}

@@ -28,7 +28,7 @@ use Rattle.sbp_world.proofs.Hosts.Carries.{IsNoAct, is_apart}
 use Rattle.sbp_world.proofs.Hosts.Cores.{wire_is}
 use Rattle.sbp_world.proofs.Hosts.Shown.{IsElsewhere}
 use Rattle.sbp_world.specs.Hosts.Calls.{behind}
-use Rattle.turn_laws.proofs.HostReads.{apart_host, sent_same}
+use Rattle.sbp_world.proofs.Hosts.HostReads.{apart_host, sent_same}
 use Rattle.turn_laws.proofs.HostTold.{told_notes}
 
 pub record Marks : Type 0 where

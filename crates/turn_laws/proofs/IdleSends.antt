@@ -60,7 +60,6 @@ use Rattle.sbp_world.specs.Hosts.Handing.{AreOthers}
 use Rattle.sbp_world.specs.Worlds.{Scene, WorldState, with_note, with_target}
 use Rattle.sbp_world.proofs.Agents.CrewFirsts.{access_there}
 use Rattle.sbp_world.proofs.Agents.CrewLapse.{handed as handed_for}
-use Rattle.sbp_world.proofs.Agents.Management.Managing.{cut_by}
 use Rattle.sbp_world.proofs.Agents.Management.Holding.{was_sent}
 use Rattle.sbp_world.proofs.Agents.Management.Still.{hist}
 use Rattle.sbp_world.proofs.Agents.Steps.{point_alike}
@@ -81,6 +80,7 @@ use Rattle.turn_laws.proofs.Places.{Place}
 use Rattle.turn_laws.proofs.ReplyEnds.{site, still_bus}
 use Rattle.turn_laws.proofs.RequestEvents.{Takes, demand_takes, request_takes}
 use Rattle.turn_laws.proofs.TurnSends.{all_alone}
+use Rattle.sbp_target.proofs.Requests.Effects.{cut_packets}
 
 abbrev pub IsIdle : List Disk → Turn → Type 0
 IsIdle start t = IsTargets t → turn_in start t ≡ None → call_of (over (target_at start t.past)) t ≡ no_call → behind_answer start t ≡ []
@@ -291,7 +291,7 @@ module _ (units ready : ℕ) (has : 0 < units) (start : List Disk) (past : List 
     access_idle q b accesses.State e is silent = alone_by 0 _ at refl is
     access_idle q b accesses.Pointer e is silent = alone_by 0 _ at refl is
     access_idle q b accesses.Enable e is silent = alone_by 0 [] (enabled q at) refl is
-    access_idle q b accesses.Reset e is silent = alone_by 0 [] (cut cuts.AgentReset q at) (cut_by (is_reset (state_in (desk_at at.node q).agent.phase)) q cuts.AgentReset empty_outbox) is
+    access_idle q b accesses.Reset e is silent = alone_by 0 [] (cut cuts.AgentReset q at) (cut_packets (is_reset (state_in (desk_at at.node q).agent.phase)) q cuts.AgentReset empty_outbox) is
     access_idle q b (accesses.Point pointer) e is silent = points q b pointer e (point_step (desk_at Node q).agent pointer) is refl silent
     access_idle q b accesses.Ring e is silent = absurd (ring_some q (agent_at Of q) (doorbell_step (agent_at Of q).machine) (sym (turn_is (demands.Agent q accesses.Ring) e) ∙ silent))
 

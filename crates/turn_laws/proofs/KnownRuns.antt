@@ -64,6 +64,7 @@ use Rattle.sbp_world.proofs.Hosts.Hosted.{expires_fit, hears_fit}
 use Rattle.sbp_world.proofs.Hosts.Knows.{target_there}
 use Rattle.sbp_world.proofs.Hosts.Requested.{AreRequests, act_sends, all_told_bus}
 use Rattle.sbp_world.proofs.Lists.Extends.{marked_fresh}
+use Rattle.sbp_world.proofs.Lists.ManageLeaves.{was_by}
 use Rattle.sbp_world.proofs.Lists.ManageHears.{hears_left, lapses_left}
 use Rattle.sbp_world.proofs.Lists.ManageRuns.{first_none}
 use Rattle.sbp_world.proofs.Lists.ManageSees.{none_later}
@@ -84,7 +85,7 @@ use Rattle.turn_laws.proofs.Pass.{Begins, kept_after, of_every_carried}
 use Rattle.turn_laws.proofs.Places.{Place}
 use Rattle.turn_laws.proofs.RomEnds.{own_rom}
 use Rattle.turn_laws.proofs.RomKnown.{KnownOf, heard_first, heard_learns, heard_small, known_rom, layer_called, now_known, now_small}
-use Rattle.turn_laws.proofs.RomLabels.{IfRom, was_by}
+use Rattle.turn_laws.proofs.RomLabels.{IfRom}
 use Rattle.turn_laws.proofs.RomPlaces.{act_was, action_is, call_acts_not, is_rom_action, told_injected}
 use Rattle.turn_laws.proofs.RomReads.{LateOfRom, Learns, act_rom, expire_learns, few_behind, heard_quads, sees_learns}
 use Rattle.turn_laws.proofs.RomRuns.{Carried as Roms, first_roms, rom_cases}

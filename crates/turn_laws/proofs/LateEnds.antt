@@ -65,7 +65,7 @@ use Rattle.sbp_laws.specs.SentWrites.{writes_to}
 use Rattle.sbp_world.proofs.FitTarget.Agents.{lost_fits}
 use Rattle.sbp_world.proofs.Lists.StatusSteps.{lost_leaves}
 use Rattle.turn_laws.proofs.FoundLabels.{late_finds, late_labels, late_spells, peer_is, i as held_i}
-use Rattle.turn_laws.proofs.FreeLabels.{KnowsLabels}
+use Rattle.sbp_world.proofs.Agents.FreeLabels.{KnowsLabels}
 use Rattle.turn_laws.proofs.Handed.{handed}
 use Rattle.turn_laws.proofs.OrderManaged.{manages}
 use Rattle.turn_laws.proofs.Places.{Place}

@@ -1,7 +1,6 @@
 pub mod Handed
 pub mod Turns
 pub mod OperationAsked
-pub mod HostReads
 pub mod HostTold
 pub mod HostMarks
 pub mod OwnCalls
@@ -174,8 +173,6 @@ pub mod Announcing
 pub mod StatusHeralds
 pub mod StatusKinds
 pub mod PushOwners
-pub mod OtherLabels
-pub mod FreeLabels
 pub mod FirstLayers
 pub mod FollowLayers
 pub mod AnnouncedLayers

@@ -36,7 +36,7 @@ use Rattle.sbp_world.proofs.Agents.CrewFirsts.{agrees}
 use Rattle.sbp_world.proofs.Agents.Hiring.{reply_hires}
 use Rattle.sbp_world.proofs.Agents.Management.Holding.{good_of}
 use Rattle.sbp_world.proofs.Formed.{AreOwn, IsNoRun}
-use Rattle.sbp_world.proofs.Agents.Management.Sights.{ages, seen_test}
+use Rattle.sbp_world.proofs.Agents.Management.Sights.{ages}
 use Rattle.sbp_world.proofs.Agents.Management.Still.{hist}
 use Rattle.turn_laws.specs.Logins.{LoginsWhereDue}
 use Rattle.turn_laws.proofs.Calls.{Brings, Cases, calls, injects, loses, refuses, refuses_action, resets, sets_key}
@@ -50,6 +50,7 @@ use Rattle.sbp_journal.specs.declared.cause.CutCause.TheVariants as cuts
 use Rattle.sbp_journal.specs.declared.cause.Judged.TheVariants as judgements
 use Rattle.sbp_journal.specs.declared.note.Note.TheVariants as notes
 use Rattle.sbp_journal.specs.declared.side.Side.TheVariants as sides
+use Rattle.sbp_world.proofs.Hosts.Knows.{seen_test}
 
 abbrev login_side : Side → List Note
 login_side (sides.Held login) = notes.Held login ∷ []

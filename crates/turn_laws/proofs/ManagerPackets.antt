@@ -10,15 +10,14 @@ use Rattle.mgmt_agent.specs.declared.operation.Busy.{Busy}
 use Rattle.mgmt_agent.specs.declared.operation.Operation.{Operation}
 use Rattle.mgmt_agent.specs.Machine as management
 use Rattle.orb_layout.specs.declared.ask.Ask.{Ask}
-use Rattle.orb_layout.specs.declared.ask.FailCause.{FailCause}
 use Rattle.orb_layout.specs.Replies.{Answer, NoLabel}
 use Rattle.sbp_journal.specs.declared.outbox.Outgoing.{Outgoing}
-use Rattle.sbp_journal.specs.Outgoings.{OutboxState, empty_outbox}
+use Rattle.sbp_journal.specs.Outgoings.{empty_outbox}
 use Rattle.target_base.specs.Addresses.{demand_of}
 use Rattle.target_base.specs.declared.address.Demand.TheVariants as demands
 use Rattle.sbp_target.specs.declared.purpose.Purpose.{Purpose}
 use Rattle.sbp_target.specs.declared.purpose.Purpose.TheVariants as purposes
-use Rattle.sbp_target.specs.Management.{ask_manager, decided_by, failed_by, lose_operation, lost_in, manage, managed_in, managed_with, manager_asked, manager_body, manager_lost, manager_sent, tell_failed, with_manager}
+use Rattle.sbp_target.specs.Management.{ask_manager, decided_by, failed_by, lose_operation, lost_in, manage, managed_in, managed_with, manager_asked, manager_body, manager_lost, manager_sent, with_manager}
 use Rattle.sbp_target.specs.Nodes.{NodeState, Scene, scene}
 use Rattle.sbp_target.specs.Serving.{answered, serve, served_as, start, started_by}
 use Rattle.sbp_target.specs.Sending.{sent_by}
@@ -32,6 +31,7 @@ use Rattle.turn_laws.proofs.AskedLabels.{Alike, finds_alike}
 use Rattle.turn_laws.proofs.FailureEffects.{decided_keeps}
 use Rattle.turn_laws.proofs.FailureSides.{answer_alike, office_at, step_body}
 use Rattle.turn_laws.proofs.FollowSends.{packet_of}
+use Rattle.sbp_target.proofs.Requests.Management.{failed_packets}
 
 -- ---- the packets of a scene
 abbrev pub out : Scene → List Outgoing
@@ -43,12 +43,9 @@ operation_packets layer source None = []
 operation_packets layer source (Some body) = packet_of source (asking_step layer source body purposes.Management).0
 
 -- ---- a failure sends nothing
-failed_sends : (source : ℕ) (cause : Option FailCause) (o : OutboxState) → (tell_failed source cause o).packets ≡ o.packets
-failed_sends source None o = refl
-failed_sends source (Some cause) o = refl
 
 lost_with : (source : ℕ) (s : Scene) (r : ManagerStep × (management.Machine × Table)) → out (manager_lost source s r) ≡ out s
-lost_with source s (step, (m, t)) = failed_sends source step.failed s.outbox
+lost_with source s (step, (m, t)) = failed_packets source step.failed s.outbox
 
 loses_by : (source : Option ℕ) (s : Scene) → out (lost_in source s) ≡ out s
 loses_by None s = refl
@@ -87,7 +84,7 @@ with_packets old source node f (step, (m, t)) =
     ask_packets source step.ask told
     ∙ ap (λ b. out told ++ operation_packets d.node.layer source b) (ap (λ (x : management.Machine). manager_body step.ask x.outgoing) same)
     ∙ ap (λ ps. out told ++ ps) (packets_alike node.layer d.node.layer (decided_keeps step.decided step.effect source (scene begun empty_outbox)) source (manager_body step.ask m.outgoing))
-    ∙ ap (λ ps. ps ++ operation_packets node.layer source (manager_body step.ask m.outgoing)) (failed_sends source step.failed d.outbox ∙ stands.packets_are)
+    ∙ ap (λ ps. ps ++ operation_packets node.layer source (manager_body step.ask m.outgoing)) (failed_packets source step.failed d.outbox ∙ stands.packets_are)
 
 -- what a reply to an operation of this source sends
 abbrev pub reply_packets : NodeState → Layer Purpose → Option ℕ → Answer → List Outgoing

@@ -44,12 +44,13 @@ use Rattle.sbp_world.proofs.Pointers.Guarded.{Guarded}
 use Rattle.sbp_world.proofs.Wire.Deliver.{judging_stays}
 use Rattle.sbp_world.proofs.Wire.Kept.{and_false}
 use Rattle.sbp_world.specs.Hosts.Rows.{present_in}
+use Rattle.sbp_world.proofs.Pointers.Leaving.{ClosedFor, judge_goes}
 use Rattle.turn_laws.proofs.HostMarks.{dead_at, dead_by, is_done, points_at, points_by}
-use Rattle.turn_laws.proofs.HostReads.{Reads, is_gone}
+use Rattle.sbp_world.proofs.Hosts.HostReads.{Reads, is_gone}
 use Rattle.turn_laws.proofs.OwnAnswers.{IsEndOf, IsRead, gives, lapses, of_write, packet_ends, quad_read, read_small, refuses, write_answer}
 use Rattle.turn_laws.proofs.OwnCalls.{lives_of}
 use Rattle.turn_laws.proofs.ReadPairs.{AreZipped, zipped_map}
-use Rattle.turn_laws.proofs.ReadsUnderWay.{ClosedFor, IsPair, Waiting, WaitsAt, ended_by, got_off, got_on, judge_goes, one_transaction, waits_now}
+use Rattle.turn_laws.proofs.ReadsUnderWay.{IsPair, Waiting, WaitsAt, ended_by, got_off, got_on, one_transaction, waits_now}
 use Rattle.turn_laws.proofs.RequestKinds.{Kinds, kind_for}
 use Rattle.turn_laws.proofs.RomEnds.{is_plain}
 

@@ -34,7 +34,7 @@ use Rattle.sbp_world.proofs.Wire.Kept.{and_false}
 use Rattle.sbp_world.specs.Hosts.Calls.{behind}
 use Rattle.sbp_world.specs.Hosts.Worlds.{IsHost}
 use Rattle.turn_laws.proofs.HostMarks.{AllOf, or_none, marks_in, others_host, IfOf, Marks, all_both, begun_with, behind_both, dead_at, dropped, got_marks, is_of, late_marks, marks, marks_at, marks_behind, note_marks, own_marks, own_marks_behind, seen_marks, taken, told_marks, told_of_it}
-use Rattle.turn_laws.proofs.HostReads.{Reads, gone_by, is_gone}
+use Rattle.sbp_world.proofs.Hosts.HostReads.{Reads, gone_by, is_gone}
 use Rattle.turn_laws.proofs.HostTold.{IsTold, expire_told, receive_told, resets_keep, told_notes}
 use Rattle.turn_laws.proofs.MarkAnswers.{dead_same, points_same, response_dead}
 use Rattle.turn_laws.proofs.OwnCalls.{acted_own_marks, expired_marks, learned, received_marks, seen_own_marks}

@@ -32,9 +32,8 @@ use Rattle.sbp_laws.specs.Agents.{Event, got_in, nothing, replies, reply_to, wri
 use Rattle.sbp_laws.specs.Packets.{access_at, answer_in, answered_at, id_for, packet_at, receiver_in, sender_in}
 use Rattle.sbp_laws.specs.Progress.{Progress, gets, gets_by, gets_main, no_progress, progress, reads_main, sends as progress_sends}
 use Rattle.sbp_laws.specs.Targets.{Agent, Decided, Purpose, Reply, Target, agent_at, agent_over, ahead_lost, closed, cut_agent, entered_by, enters_in, for_agent, for_manager, for_nobody, got_by, is_nothing, is_serial, known_at, main_lost, manager_step, moved, new_agent, over, pointed_by, points, purpose_among, purpose_of, register_got, replied, replied_to, request_got, rings, sends_of, start_got, started_by, target_at, target_by, wants, with_agent}
-use Rattle.sbp_world.proofs.Agents.Handed.{is_its_serial}
 use Rattle.sbp_world.proofs.Agents.Management.Firsts.{wire_is}
-use Rattle.sbp_world.proofs.Common.{none_is, same_number, untrue}
+use Rattle.sbp_world.proofs.Common.{none_is, same_number, untrue, serial_is}
 use Rattle.sbp_world.proofs.Lists.OrbSteps.{has_read, holds_read, yes}
 use Rattle.sbp_world.proofs.Lists.AgentFolds.{AreKept, AreLasting, AreSo, AreStill, Every, Pends, at_place, cut_still, new_there, over_still, set_so, set_still, so, stand, stand_still}
 use Rattle.sbp_world.proofs.Lists.AgentNotes.{leaves_kept, managed_kept, note_kept, pick}
@@ -210,7 +209,7 @@ ahead_among from (a ∷ agents) place serial e =
         → (x y : Bool) → is_serial a.ahead serial ≡ y → cond x (for_agent from Main) (cond y (for_agent from Ahead) rest) ≡ for_agent place Ahead
         → IsAheadAt from place serial (a ∷ agents)
     by rest more true y g h = absurd (let f : for_agent from Main ≡ for_agent place Ahead = h in cc)
-    by rest more false true g h = record { k = 0; place_is = let f : from ≡ place = cc in omega arith; waits = is_its_serial a.ahead serial g }
+    by rest more false true g h = record { k = 0; place_is = let f : from ≡ place = cc in omega arith; waits = serial_is a.ahead serial g }
     by rest more false false g h = let x = more h in let p = x.place_is in record { k = suc x.k; place_is = omega arith; waits = x.waits }
 
 pub ahead_of : (t : Target) (place serial : ℕ) → purpose_of t serial ≡ for_agent place Ahead → (agent_at t place).ahead ≡ Some serial

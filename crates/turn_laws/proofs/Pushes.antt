@@ -112,7 +112,7 @@ use Rattle.turn_laws.proofs.Handed.{handed, notes_sent, notes_told}
 use Rattle.turn_laws.proofs.KindNotes.{kind_handed, own_handed}
 use Rattle.turn_laws.proofs.LaterTerms.{Pushes}
 use Rattle.turn_laws.proofs.ManagedSides.{from_self}
-use Rattle.turn_laws.proofs.OtherLabels.{AlikeAt, Goes, Roomy, alike_self, goes_asked, goes_disowned, goes_finds, room_asked, room_disowned}
+use Rattle.sbp_world.proofs.Agents.OtherLabels.{AlikeAt, Goes, Roomy, alike_self, goes_asked, goes_disowned, goes_finds, room_asked, room_disowned}
 use Rattle.turn_laws.proofs.Pass.{of_every_carried}
 use Rattle.turn_laws.proofs.PendingHeard.{agent_not, base, good as heard_good}
 use Rattle.turn_laws.proofs.PendingKept.{Id, Pending}

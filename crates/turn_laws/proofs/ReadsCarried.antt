@@ -59,6 +59,7 @@ use Rattle.sbp_world.proofs.Hosts.Carried.{between_runs, of_runs}
 use Rattle.sbp_world.proofs.Hosts.Carries.{Carries, Does, IsLineOf, IsNoAct, Tells, is_apart}
 use Rattle.sbp_world.proofs.Hosts.Cores.{not_so}
 use Rattle.sbp_world.proofs.Hosts.Held.{ignored_quiet, sent_begun, sent_count, sent_new}
+use Rattle.sbp_world.proofs.Hosts.Knows.{seen_flag}
 use Rattle.sbp_world.proofs.Hosts.Remaining.{step}
 use Rattle.sbp_world.specs.Pointers.Moments.{asked_in, own_action}
 use Rattle.sbp_world.proofs.Hosts.Hosted.{Cored, expires_fit, hears_fit, marks_of}
@@ -82,7 +83,6 @@ use Rattle.sbp_world.proofs.Pointers.Resetting.{asked_host}
 use Rattle.sbp_world.proofs.Hosts.PointSees.{see_left}
 use Rattle.sbp_world.proofs.Pointers.WaitActs.{none_seen, see_old}
 use Rattle.sbp_world.proofs.Pointers.Waits.{asked_sent, asked_told, judged_count, judged_ends, timed_count, timed_ends}
-use Rattle.sbp_world.proofs.Lists.LiveTurns.{flag_is}
 use Rattle.sbp_world.proofs.Wire.Deliver.{judging_stays}
 use Rattle.sbp_world.specs.Histories.{history_of}
 use Rattle.sbp_world.specs.Hosts.Calling.{IsCalled}
@@ -94,9 +94,10 @@ use Rattle.sbp_world.specs.Settling.{MayAll, after_all}
 use Rattle.sbp_world.specs.Worlds.{begun, initiator_at}
 use Rattle.rbc_disk.specs.Runs.{Told as ToldRun}
 use Rattle.sbp_world.specs.Hosts.Calls.{behind}
-use Rattle.turn_laws.proofs.HostReads.{Reads, acted_reads, all_kept, apart_reads, gone_by, got_reads, is_gone, late_reads, over_if, seen_reads, sent_reads, told_reads}
+use Rattle.sbp_world.proofs.Hosts.HostReads.{Reads, acted_reads, all_kept, apart_reads, gone_by, got_reads, is_gone, late_reads, over_if, seen_reads, sent_reads, told_reads}
+use Rattle.sbp_world.proofs.Pointers.Leaving.{ClosedFor, LapsedFor, expire_goes, judge_goes}
 use Rattle.turn_laws.proofs.ReadPairs.{AreZipped, zipped_map, zipped_more}
-use Rattle.turn_laws.proofs.ReadsUnderWay.{AreTimely, ClosedFor, IsPair, LapsedFor, ReadsThen, StateAt, WaitsAt, ended_by, ended_for, ended_late, expire_goes, finding_left, got_off, got_on, judge_goes, lapsed_left, late_off, late_on, reads_then}
+use Rattle.turn_laws.proofs.ReadsUnderWay.{AreTimely, IsPair, ReadsThen, StateAt, WaitsAt, ended_by, ended_for, ended_late, finding_left, got_off, got_on, lapsed_left, late_off, late_on, reads_then}
 use Rattle.turn_laws.proofs.OwnCalls.{earlier_of, learned, lives_of, running_before, seen_own_marks, states_step}
 use Rattle.turn_laws.proofs.OwnFacts.{operation_same}
 use Rattle.turn_laws.proofs.OwnStates.{AreAsMany, AreInOrder, AreReset, both as both_reset, none as none_reset}
@@ -483,7 +484,7 @@ module _ (ready : Bool) (generation id target : ℕ) (past : List Moment) (i : �
   told_tame = (see_left generation id target s).told
 
   is_new : not (nat_eq generation ((terms past).generation (suc i))) ≡ nat_lt s.layer.generation generation
-  is_new = sym flag ∙ flag_is s.layer generation id
+  is_new = sym flag ∙ seen_flag s.layer generation id
 
   seen_pairs : Fit past → AreTimely past → (b : Bool) → nat_lt s.layer.generation generation ≡ b → Zipped seen_turn
   seen_pairs f m true e =

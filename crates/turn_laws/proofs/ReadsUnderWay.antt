@@ -4,21 +4,13 @@ use Rattle.std.proofs.Common.{arith, ◌≡◌, inl, inr, ◌⊎◌, refl, sym, 
 use Rattle.std.specs.List.{filter}
 use Rattle.std.proofs.lemmas.Option.{same_Some}
 use Rattle.async_packet.specs.Fields.{rcode_of}
-use Rattle.async_packet.specs.Labels.{LabelParts}
-use Rattle.async_packet.specs.Packet.{Packet, header_in}
-use Rattle.async_packet.specs.Reading.{reading}
-use Rattle.async_packet.specs.declared.fault.PacketFault.{PacketFault}
 use Rattle.bus_transactions.specs.Fitting.{AreBytes}
 use Rattle.bus_transactions.specs.Packets.{SerialsCount}
 use Rattle.bus_transactions.specs.Rows.{awaits, kind_as, shape, shape_of}
 use Rattle.bus_transactions.specs.Wire.{transaction}
 use Rattle.bus_transactions.proofs.PacketParts.{same_is}
-use Rattle.label_table.specs.History.{Life, Told, and_before, ended, is_same as is_same_name, judges, lets_expire, life, told_by_expiring, told_by_finding, told_by_reading, told_closed, told_unknown, under_way}
-use Rattle.label_table.specs.History as wire
-use Rattle.label_table.specs.Layer.{Finding, Layer, expiring_step, judging_step, of_again, of_generation, of_grammar, of_label, of_request, of_response}
+use Rattle.label_table.specs.Layer.{Finding, Layer, of_again, of_generation, of_grammar, of_label, of_request, of_response}
 use Rattle.label_table.specs.Peers.{purpose_for, state_for}
-use Rattle.label_table.specs.Requests.{reply_kind}
-use Rattle.label_table.proofs.Calls.{after_kept}
 use Rattle.label_table.specs.declared.reply.ReplyKind.{ReplyKind}
 use Rattle.label_table.specs.declared.reply.Stale.{Stale}
 use Rattle.sbp_initiator.specs.Effects.{Turn}
@@ -27,7 +19,7 @@ use Rattle.sbp_initiator.specs.declared.purpose.Purpose.{Purpose}
 use Rattle.sbp_initiator.specs.declared.purpose.Purpose.TheVariants as purposes
 use Rattle.sbp_initiator.specs.declared.purpose.Running.{Running}
 use Rattle.sbp_initiator.specs.declared.state.InitiatorState.{InitiatorState}
-use Rattle.sbp_initiator.proofs.Histories.Lives.{read_act, same_of}
+use Rattle.sbp_initiator.proofs.Histories.Lives.{read_act}
 use Rattle.sbp_journal.specs.Run.{Moment, said}
 use Rattle.sbp_journal.specs.Transactions.{Kind, Part, Sending, Transaction, asked_by, begun_by, between, is_same, is_same_kind, no_packet, part_of, request, response}
 use Rattle.sbp_journal.specs.Wire.{Held, Terms, arrives, begun_in, closes, closes_if, free, gets, gets_as, is_news, is_served, rests, terms, times_out, waits}
@@ -39,7 +31,7 @@ use Rattle.sbp_laws.specs.Turns.{EachMoment}
 use Rattle.sbp_world.proofs.Agents.Management.Still.{judges_held}
 use Rattle.sbp_world.proofs.Common.{cond_off, cond_on, equal, none_is, same_number, untrue}
 use Rattle.sbp_world.proofs.Hosts.Layered.{LayerLeft, Left, read, same}
-use Rattle.sbp_world.proofs.Hosts.Lives.{At, Called, ask_keeps, at_life}
+use Rattle.sbp_world.proofs.Hosts.Lives.{At, Called, ask_keeps}
 use Rattle.sbp_world.proofs.Hosts.PointerNotes.{tame_told}
 use Rattle.sbp_world.proofs.Hosts.Pointing.{at_same, under_way_now}
 use Rattle.sbp_world.proofs.Hosts.Shown.{IsShown}
@@ -47,10 +39,9 @@ use Rattle.sbp_world.proofs.Lists.BegunBy.{begun_of, held_by, transaction_of}
 use Rattle.sbp_world.proofs.Lists.FedHeld.{got_frees, same_self}
 use Rattle.sbp_world.proofs.Lists.ManageFirsts.{Goes, goes_then, told_first}
 use Rattle.sbp_world.proofs.Pointers.Ages.{serial_is}
-use Rattle.sbp_world.proofs.Pointers.Finds.{closes_at, expires_at}
 use Rattle.sbp_world.proofs.Pointers.Guarded.{left_generation}
 use Rattle.sbp_world.specs.Hosts.Calls.{behind}
-use Rattle.turn_laws.proofs.HostReads.{Reads, all_kept, is_gone, over_if, told_reads}
+use Rattle.sbp_world.proofs.Hosts.HostReads.{Reads, all_kept, is_gone, over_if, told_reads}
 use Rattle.turn_laws.proofs.ReadPairs.{AreZipped, Fate, was_kept, zipped_filter}
 use Rattle.sbp_world.proofs.Hosts.Pointed.{free_not}
 
@@ -238,103 +229,7 @@ module _ (past : List Moment) (serials : SerialsCount past) where
           let is : own_v ≡ a.u = one_transaction own_v a.u k a.kind n h (a.held ∙ ap (waits a.kind) (sym number)) in
           never_rests m x (sym (late_as own_v ∙ cond_on (is_same own_v a.u) rests (T.held own_v) (ap (λ y. is_same own_v y) (sym is) ∙ same_self own_v)) ∙ w)
 
--- ---- what a layer leaves under way, but the transaction that ends
-abbrev pub ClosedFor : Finding Purpose → Option Purpose → Type 0
-ClosedFor (of_response p label other) purpose = other ≡ purpose
-ClosedFor finding purpose = ⊥
-
-abbrev pub LapsedFor : Result (Option Purpose) Stale → Option Purpose → Type 0
-LapsedFor (Ok other) purpose = other ≡ purpose
-LapsedFor (Err stale) purpose = ⊥
-
-module _ (layer : Layer Purpose) (peer number : ℕ) (purpose : Option Purpose) (c : Called layer) (here : At layer peer number purpose) where
-  abbrev old : Layer Purpose
-  old = wire.after c.node c.calls
-
-  abbrev lived : List (Told Purpose)
-  lived = wire.history c.node c.calls
-
-  b : At old peer number purpose
-  b = subst (λ (l : Layer Purpose). At l peer number purpose) (sym c.is) here
-
-  abbrev name : LabelParts
-  name = record { number = number; generation = old.generation; serial = b.serial }
-
-  abbrev Runs : Life Purpose → Type 0
-  Runs x = x ≡ under_way b.kind purpose
-
-  w : Runs (life peer name lived)
-  w = at_life c.node c.calls peer number purpose b
-
-  -- so it is under way behind more calls
-  at_behind : (calls : List (wire.Call Purpose)) → Runs (life peer name (wire.history c.node calls)) → At (wire.after c.node calls) peer number purpose
-  at_behind calls r =
-      let k = after_kept c.node calls in
-      record { kind = b.kind; serial = name.serial; state = k.agree.stands peer name b.kind purpose r; is_for = k.agree.is_for peer name b.kind purpose r }
-
-  -- under this label it is for this
-  for_this : (source : ℕ) (label : LabelParts) (other : Option Purpose) → At layer source label.number other → is_same_name source label peer name ≡ true → other ≡ purpose
-  for_this source label other a e =
-      let s = same_of source label peer name e in
-      sym a.is_for ∙ ap (λ n. purpose_for layer.peers n label.number) s.peer ∙ ap (λ n. purpose_for layer.peers peer n) s.number ∙ here.is_for
-
-  unknown_runs : (kind : Option ReplyKind) (p : Packet) → Runs (life peer name (and_before (told_unknown p kind) lived))
-  unknown_runs None p = w
-  unknown_runs (Some kind) p = w
-
-  reading_runs : (result : Result Packet PacketFault) → Runs (life peer name (and_before (told_by_reading result) lived))
-  reading_runs (Err fault) = w
-  reading_runs (Ok p) = unknown_runs (reply_kind p) p
-
-  closed_runs : (kind : Option ReplyKind) (p : Packet) (label : LabelParts) (other : Option Purpose) → At layer (header_in p).source label.number other
-      → Runs (life peer name (and_before (told_closed p label other kind) lived)) ⊎ (other ≡ purpose)
-  closed_runs None p label other a = inl w
-  closed_runs (Some kind) p label other a = by (is_same_name (header_in p).source label peer name) refl
-    where
-      by : (x : Bool) → is_same_name (header_in p).source label peer name ≡ x → Runs (cond x (ended (life peer name lived)) (life peer name lived)) ⊎ (other ≡ purpose)
-      by true e = inr (for_this (header_in p).source label other a e)
-      by false e = inl w
-
-  -- what a packet closes was under way under its label
-  abbrev ClosesHere : Finding Purpose → Type 0
-  ClosesHere finding = (p : Packet) (label : LabelParts) (other : Option Purpose) → finding ≡ of_response p label other → At layer (header_in p).source label.number other
-
-  found_runs : (finding : Finding Purpose) (bytes : List ℕ) → ClosesHere finding → Runs (life peer name (and_before (told_by_finding finding bytes) lived)) ⊎ ClosedFor finding purpose
-  found_runs of_generation bytes f = inl w
-  found_runs of_grammar bytes f = inl w
-  found_runs of_label bytes f = inl (reading_runs (reading bytes))
-  found_runs (of_response p label other) bytes f = closed_runs (reply_kind p) p label other (f p label other refl)
-  found_runs (of_again p rcode) bytes f = inl w
-  found_runs (of_request p) bytes f = inl w
-
-  pub judge_goes : (generation : ℕ) (bytes : List ℕ) → At (judging_step layer generation bytes).1 peer number purpose ⊎ ClosedFor (judging_step layer generation bytes).0 purpose
-  judge_goes generation bytes =
-      by (found_runs (judging_step old generation bytes).0 bytes
-      (λ p label other e. closes_at layer generation bytes p label other c (ap (λ (l : Layer Purpose). (judging_step l generation bytes).0) (sym c.is) ∙ e)))
-    where
-      by : Runs (life peer name (and_before (told_by_finding (judging_step old generation bytes).0 bytes) lived)) ⊎ ClosedFor (judging_step old generation bytes).0 purpose
-          → At (judging_step layer generation bytes).1 peer number purpose ⊎ ClosedFor (judging_step layer generation bytes).0 purpose
-      by (inl r) = inl (subst (λ (l : Layer Purpose). At (judging_step l generation bytes).1 peer number purpose) c.is (at_behind (judges generation bytes ∷ c.calls) r))
-      by (inr x) = inr (subst (λ (l : Layer Purpose). ClosedFor (judging_step l generation bytes).0 purpose) c.is x)
-
-  lapsed_runs : (r : Result (Option Purpose) Stale) (to : ℕ) (label : LabelParts) → ((other : Option Purpose) → r ≡ Ok other → At layer to label.number other)
-      → Runs (life peer name (and_before (told_by_expiring to label r) lived)) ⊎ LapsedFor r purpose
-  lapsed_runs (Err stale) to label f = inl w
-  lapsed_runs (Ok other) to label f = by (is_same_name to label peer name) refl
-    where
-      by : (x : Bool) → is_same_name to label peer name ≡ x → Runs (cond x (ended (life peer name lived)) (life peer name lived)) ⊎ (other ≡ purpose)
-      by true e = inr (for_this to label other (f other refl) e)
-      by false e = inl w
-
-  pub expire_goes : (to : ℕ) (label : LabelParts) → At (expiring_step layer to label).1 peer number purpose ⊎ LapsedFor (expiring_step layer to label).0 purpose
-  expire_goes to label =
-      by (lapsed_runs (expiring_step old to label).0 to label (λ other e. expires_at layer to label other c (ap (λ (l : Layer Purpose). (expiring_step l to label).0) (sym c.is) ∙ e)))
-    where
-      by : Runs (life peer name (and_before (told_by_expiring to label (expiring_step old to label).0) lived)) ⊎ LapsedFor (expiring_step old to label).0 purpose
-          → At (expiring_step layer to label).1 peer number purpose ⊎ LapsedFor (expiring_step layer to label).0 purpose
-      by (inl r) = inl (subst (λ (l : Layer Purpose). At (expiring_step l to label).1 peer number purpose) c.is (at_behind (lets_expire to label ∷ c.calls) r))
-      by (inr x) = inr (subst (λ (l : Layer Purpose). LapsedFor (expiring_step l to label).0 purpose) c.is x)
-
+-- ---- the reads that a layer leaves under way
 -- the action of the read that ends
 abbrev pub ended_for : Option Purpose → Option ℕ
 ended_for None = None

@@ -70,7 +70,7 @@ use Rattle.turn_laws.proofs.TurnCounts.{pushed_in, turn_counts}
 use Rattle.turn_laws.proofs.TurnSends.{SendsOwn, all_alone, response_is, sends_alone}
 use Rattle.turn_laws.proofs.TurnWrites.{all_writes, turn_writes}
 use Rattle.turn_laws.proofs.FoundLabels.{peer_is, response_finds, response_labels, response_spells, i as held_i}
-use Rattle.turn_laws.proofs.FreeLabels.{KnowsLabels}
+use Rattle.sbp_world.proofs.Agents.FreeLabels.{KnowsLabels}
 use Rattle.turn_laws.proofs.Handed.{handed}
 use Rattle.turn_laws.proofs.Places.{Place}
 

@@ -36,7 +36,7 @@ use Rattle.turn_laws.proofs.EndTries.{fails_in}
 use Rattle.turn_laws.proofs.FollowEnds.{no_label}
 use Rattle.turn_laws.proofs.FollowSends.{packet_of, requested, requested_ahead}
 use Rattle.turn_laws.proofs.FoundLabels.{Spells}
-use Rattle.turn_laws.proofs.FreeLabels.{read_plain}
+use Rattle.sbp_world.proofs.Agents.FreeLabels.{read_plain}
 use Rattle.turn_laws.proofs.RequestLabels.{access_in_body, body_access}
 use Rattle.turn_laws.proofs.StepLabels.{finds_in}
 use Rattle.turn_laws.proofs.TurnWrites.{all_writes}

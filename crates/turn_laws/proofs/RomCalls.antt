@@ -55,9 +55,10 @@ use Rattle.sbp_world.proofs.Lists.ManageHears.{lapses_left}
 use Rattle.sbp_world.proofs.Pointers.Asks.{act_allowed}
 use Rattle.sbp_world.proofs.Pointers.Finds.{expires_at, none_ended, same_serial}
 use Rattle.sbp_world.proofs.Pointers.WaitActs.{none_seen}
+use Rattle.sbp_world.proofs.Pointers.Leaving.{LapsedFor, expire_goes}
 use Rattle.turn_laws.proofs.OwnTurns.{by_life}
-use Rattle.turn_laws.proofs.ReadsUnderWay.{LapsedFor, expire_goes}
-use Rattle.turn_laws.proofs.RomLabels.{CallRom, IsGone, OneRom, RomAt, WasSo, Within, called_layer, ended_call, from, next_call, plainly, same_rom, sends_none, was_by}
+use Rattle.turn_laws.proofs.RomLabels.{CallRom, IsGone, OneRom, RomAt, WasSo, Within, called_layer, ended_call, from, next_call, plainly, same_rom, sends_none}
+use Rattle.sbp_world.proofs.Lists.ManageLeaves.{was_by}
 use Rattle.sbp_world.proofs.Lists.ManageSees.{none_later}
 
 -- ---- a transaction that timed out is over

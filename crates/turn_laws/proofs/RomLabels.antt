@@ -46,11 +46,11 @@ use Rattle.sbp_world.proofs.Hosts.Layered.{receive_left}
 use Rattle.sbp_world.proofs.Hosts.Lives.{At, AskedAt, Called, ask_at, ask_begins, asked_now, judge_at, was_asked}
 use Rattle.sbp_world.proofs.Hosts.Pointing.{at_same}
 use Rattle.sbp_world.proofs.Lists.ManageHears.{hears_left}
-use Rattle.sbp_world.proofs.Lists.ManageLeaves as leaves
+use Rattle.sbp_world.proofs.Lists.ManageLeaves.{was_by}
 use Rattle.sbp_world.proofs.Wire.Deliver.{judging_stays}
 use Rattle.sbp_world.proofs.Pointers.Finds.{closed_over, closes_at}
 use Rattle.sbp_world.proofs.Pointers.Spelled.{spelled_by}
-use Rattle.turn_laws.proofs.ReadsUnderWay.{ClosedFor, judge_goes}
+use Rattle.sbp_world.proofs.Pointers.Leaving.{ClosedFor, judge_goes}
 use Rattle.turn_laws.proofs.RomEnds.{IsApart, RomGoes, ended_leaves, ends, goes_on, is_plain, read_on, rom_goes}
 use Rattle.turn_laws.proofs.RomStays.{request_stays}
 use Rattle.turn_laws.proofs.RomTerms.{IsReply, response_replies}
@@ -214,14 +214,6 @@ module _ (s : InitiatorState) (h : OneRom s) (t : Turn) (target_is : t.1.target 
             by : AskedAt l s.target asked (purposes.Rom r.act) s.target n (Some (purposes.Rom a)) → a ≡ r.act
             by (asked_now p e f) = same_purpose a r.act f
             by (was_asked y) = absurd (none n a y)
-
--- ---- the operation is as before, or over
-pub was_by : (s u : InitiatorState) (Why : Running → Type 0) → leaves.Left s Why u → (r : Running) → u.operation ≡ Some r → s.operation ≡ Some r
-was_by s u Why left r e = by left.operation
-  where
-    by : (u.operation ≡ s.operation) ⊎ leaves.IsEnded s Why u → s.operation ≡ Some r
-    by (inl f) = sym f ∙ e
-    by (inr f) = none_is r (sym f.none ∙ e)
 
 module _ (ready : Bool) (i : ℕ) (s : InitiatorState) (own : IsCalled ready i s) (aims : Aims s.layer s.target) (valid : IsLayer s.layer) (small : s.target < 2 ^ 16) (h : OneRom s) where
   pub called_layer : Called s.layer

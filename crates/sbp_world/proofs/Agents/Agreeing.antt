@@ -1,6 +1,6 @@
 -- After each turn of the target the terms have its registers enabled.
 use Rattle.sbp_world.proofs.Words.Std.{arith, ◌≡◌, ◌∙◌, refl, sym, ap, subst, ℕ, ◌+◌, ◌<◌, ◌≤◌, not, nat_eq, nat_lt, is_some, Bool, true, false, cond, List, [], ◌∷◌, length, map, replicate, Option, Some, None, Result, Ok, Err, slice_index_or, slice_set, unwrap_or, get_or-map, nat_tests, common_steps, set_past, false≢true}
-use Rattle.sbp_world.proofs.Words.Wire.{LabelParts, Packet, header_in, lock, lock_response, read_block, read_block_response, read_quadlet, read_quadlet_response, write_block, write_quadlet, write_response, reading, Node, as_sending, ReplyKind, Stale, Finding, Layer, expiring_step, judging_step, of_again, of_generation, of_grammar, of_label, of_request, of_response, seeing_step, seen_in_generation, reply_kind, Sent, found_sent, Holder, id_of, judged_note, holder_at, or_nobody, function_word, Access, access_of, Moment, said, Kind, part_of, request, Terms, begun_in, gets, ignores_that, terms, times_out, Cause, Judged, FunctionWord, empty_outbox}
+use Rattle.sbp_world.proofs.Words.Wire.{LabelParts, Packet, header_in, lock, lock_response, read_block, read_block_response, read_quadlet, read_quadlet_response, write_block, write_quadlet, write_response, reading, Node, as_sending, ReplyKind, Stale, Finding, Layer, expiring_step, judging_step, of_again, of_generation, of_grammar, of_label, of_request, of_response, seeing_step, reply_kind, Sent, found_sent, Holder, id_of, judged_note, holder_at, or_nobody, function_word, Access, access_of, Moment, said, Kind, part_of, request, Terms, begun_in, gets, ignores_that, terms, times_out, Cause, Judged, FunctionWord, empty_outbox}
 use Rattle.sbp_world.proofs.Words.Target.{Login, Table, find, is_of_node, place_at, tick_step, Disk, Held, Told, Decision, Effect, ManagerStep, AgentAccess, Demand, demand_of, Desk, Purpose, alone, lets_expire, sees, ticks, disabled, new_desk, manage, managed_in, managed_with, NodeState, Scene, desk_at, login_at, scene, with_desk, answer_in, cleared_node, concluded, expired, expired_in, held_all, judged_scene, received, received_as, reset_by, seen, ticked, timed_out, with_layer, Whole, replied_to, scene_of, whole, cut_all, accessed_by, answered, enabled, is_barred, serve, served_as, start_operation}
 use Rattle.sbp_world.proofs.Words.Initiator.{Nothing, Answer, Expired}
 use Rattle.sbp_world.proofs.Words.Laws.{access_at, answered_at, id_for, Target, got_by, known_at, over, is_serial, place_on, laws_replied, request_got, reset_seen, target_at}
@@ -41,7 +41,7 @@ use Rattle.sbp_world.proofs.Agents.Serves.{start_keeps}
 use Rattle.sbp_world.proofs.Agents.Sparing.{Spares, reply_spares}
 use Rattle.sbp_world.proofs.Agents.Using.{faces_itself, sides_face, sides_off}
 use Rattle.sbp_world.proofs.Lists.TakenTerms.{response_access}
-use Rattle.sbp_world.proofs.Agents.CrewSights.{flag_by}
+use Rattle.sbp_world.proofs.Hosts.Knows.{seen_flag, seen_test}
 
 -- the ID of a node, where the generation of the target and its IDs are the same
 same_ids : (t u : Terms) → u.generation 0 ≡ t.generation 0 → ((n : ℕ) → u.ids (t.generation 0) n ≡ t.ids (t.generation 0) n) → (n : ℕ) → id_for u 0 n ≡ id_for t 0 n
@@ -556,16 +556,6 @@ module _ (units ready : ℕ) (has : 0 < units) (start : List Disk) {past : List 
       record { login = l.login; is = ap (λ (y : Table). place_at y.places place) final ∙ l.is }))
 
   -- ---- the target sees a generation
-  seen_flag : (l g u : ℕ) → l ≤ g → u ≡ l → not (nat_eq g u) ≡ nat_lt l g
-  seen_flag l g u a e = by (nat_lt l g) refl
-    where
-      by : (b : Bool) → nat_lt l g ≡ b → not (nat_eq g u) ≡ nat_lt l g
-      by true f = let z : nat_eq g u ≡ false = grind (arith, nat_tests) in ap not z ∙ sym f
-      by false f = let z : nat_eq g u ≡ true = grind (arith, nat_tests) in ap not z ∙ sym f
-
-  step_flag : (layer : Layer Purpose) (generation id : ℕ) → (seeing_step layer generation id).0 ≡ nat_lt layer.generation generation
-  unfolding seeing_step
-  step_flag layer generation id = flag_by (nat_lt layer.generation generation) (seen_in_generation layer generation id) layer
 
   abbrev latest : ℕ
   latest = w.generations.latest.generation
@@ -586,7 +576,7 @@ module _ (units ready : ℕ) (has : 0 < units) (start : List Disk) {past : List 
       let c = (holds stands.wire stands.reached).bus_is in
       let below : w.target.layer.generation ≤ latest = omega arith in
       let same : t.generation 0 ≡ w.target.layer.generation = target_generation w stands ∙ sym (stands.is.sights 0 there) ∙ layer_is in
-      seen_flag w.target.layer.generation latest (t.generation 0) below same ∙ sym (step_flag w.target.layer latest own_id)
+      seen_test w.target.layer.generation latest (t.generation 0) below same ∙ sym (seen_flag w.target.layer latest own_id)
 
   reset_enabled : (b : Bool) (u : Target) → (reset_seen b u).enabled ≡ cond b (replicate 8 false) u.enabled
   reset_enabled true u = refl

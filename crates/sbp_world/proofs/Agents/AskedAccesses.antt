@@ -1,7 +1,7 @@
 -- What is asked of the registers of an agent leaves all desks waiting for what left.
 use Rattle.sbp_world.proofs.Words.Std.{◌≡◌, ◌∙◌, refl, sym, ap, subst, ℕ, ◌<◌, true, false, List, [], length, Option, Some, None, Ok, slice_set, length-set, false≢true}
 use Rattle.sbp_world.proofs.Words.Wire.{Packet, header_in, Body, Layer, answering_step, Outgoing, OutboxState}
-use Rattle.sbp_world.proofs.Words.Target.{Login, Phase, ReadAhead, AgentState, AgentStep, Machine, is_ahead, is_sent, state_in, doorbell_in, doorbell_step, fetch_step, point_in, point_step, quiet, reread_step, complete, Access, Desk, Purpose, Sent, agent_body, cut, follow, after, pointed_desk, reset_desk, NodeState, Scene, desk_at, login_at, scene, with_desk, answer_step, accessed_by, answered, asked_in, enabled, point, pointed_by, ring, rung_by, ahead_ask, ahead_under}
+use Rattle.sbp_world.proofs.Words.Target.{Login, Phase, ReadAhead, AgentState, AgentStep, Machine, is_ahead, is_sent, state_in, doorbell_in, doorbell_step, fetch_step, point_in, point_step, reread_step, complete, Access, Desk, Purpose, Sent, agent_body, cut, follow, after, pointed_desk, reset_desk, NodeState, Scene, desk_at, login_at, scene, with_desk, answer_step, accessed_by, answered, asked_in, enabled, point, pointed_by, ring, rung_by, ahead_ask, ahead_under}
 use Rattle.sbp_world.proofs.Words.Initiator.{Nothing, CommandOrb, OrbPointer, At, Null}
 use Rattle.sbp_world.proofs.Words.World.{AccessesLaw, AllAsk, AsksReally, IsStill, IsUnder, Left, ahead_body, main_body}
 use Rattle.command_agent.specs.declared.phase.Phase.TheVariants as phases

@@ -138,10 +138,10 @@ module _ (units ready : ℕ) (has : 0 < units) (start : List Disk) {past : List 
       main_sent : is_sent m.phase ≡ true
       main_sent = sym (is.main ∙ fits.main) ∙ ap (λ (y : Option ℕ). is_some y) e
 
-      main_served : IsServed w.target place
+      pub main_served : IsServed w.target place
       main_served = G.mid.served place b (not_eight place b) (sent_reset m.phase main_sent)
 
-      main_asked : Asked t serial (initiator + 1) (main_under m) (writes_status m.phase) main_served.login.fifo m.outgoing
+      pub main_asked : Asked t serial (initiator + 1) (main_under m) (writes_status m.phase) main_served.login.fifo m.outgoing
       main_asked =
           let x = there d.main (sym is.main ∙ ap (λ (y : Option ℕ). is_some y) e) in
           let o = own_main units ready has start w h requests are known place b x.sent x.is serial e in

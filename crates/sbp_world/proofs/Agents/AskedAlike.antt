@@ -1,7 +1,7 @@
 -- Of two agents that differ in nothing that their phase reads any more one request is under way; its address has 48 bits.
 use Rattle.sbp_world.proofs.Words.Std.{◌≡◌, ◌∙◌, refl, sym, ap, ℕ, ◌-◌, ◌*◌, ◌^◌, ◌<◌, ◌&&◌, nat_lt, Bool, true, false, List, [], ◌∷◌, length, arith, AllByRecursion}
 use Rattle.sbp_world.proofs.Words.Target.{Phase, ReadAhead, Machine, cut_to, is_ahead, limit_of, state_in, is_reset, writes_status, ahead_ask, ahead_under, main_ask, main_under}
-use Rattle.sbp_world.proofs.Words.Initiator.{Ask, Nothing, Read, Write, CommandOrb, OrbPointer, At, Null, IsPointer, Segment, chunk, chunk_from}
+use Rattle.sbp_world.proofs.Words.Initiator.{Ask, Nothing, Read, Write, CommandOrb, OrbPointer, At, Null, IsPointer, Segment, chunk_from}
 use Rattle.sbp_world.proofs.Words.Laws.{is_nothing}
 use Rattle.sbp_world.proofs.Words.World.{FitsAgent, FitsSegment, Alike, answers, has_list, moves_data}
 use Rattle.command_agent.specs.declared.phase.Phase.TheVariants as phases

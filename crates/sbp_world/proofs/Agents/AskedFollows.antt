@@ -1,8 +1,8 @@
 -- Behind a step of an agent what its desk waits for left, as the request that its machine has under way.
 use Rattle.sbp_world.proofs.Words.Std.{◌≡◌, ◌∙◌, refl, sym, ap, subst, inl, inr, ℕ, ◌<◌, ◌&&◌, ◌||◌, not, is_some, nat_lt, Bool, true, false, cond, List, [], ◌∷◌, ◌++◌, length, Option, Some, None, Result, Err, arith, ◌≢◌, slice_index_or, slice_set, length-set, false≢true, true≢false, same_Some, none-some}
-use Rattle.sbp_world.proofs.Words.Wire.{Asked, Body, Layer, asked_at, asking_in, asking_step, free_labels, peer_at, peer_place, unlabelled, begun_for, begin_at, begin_step, lowest_from, with_label, Outgoing, OutboxState}
-use Rattle.sbp_world.proofs.Words.Target.{new_desk, Login, Outcome, Phase, ReadAhead, AgentState, AgentStep, PointRefusal, Ahead, Main, Machine, is_ahead, is_sent, is_under_way, state_in, doorbell_in, doorbell_step, fetch_step, lost_step, point_in, point_step, quiet, reply_step, reread_step, writes_status, Desk, Purpose, Sent, after_ahead, after_loss, after_main, agent_body, ahead_asked, ahead_sent, ask_ahead, ask_main, dropped_by, follow, lose, lose_main, lost_by, main_asked, main_sent, noted, promoted_by, send_ahead, without_ahead, NodeState, Scene, desk_at, scene, with_agent, with_desk, request_step, sent_by, tell_dead, tell_ended, tell_ran, tell_step, ahead_ask, ahead_under, main_under}
-use Rattle.sbp_world.proofs.Words.Initiator.{Ask, Nothing, Read, Write, FailCause, OrbPointer, At, Null, StatusKind}
+use Rattle.sbp_world.proofs.Words.Wire.{Asked, Body, Layer, asked_at, asking_in, asking_step, free_labels, peer_at, peer_place, unlabelled, begun_for, begin_at, begin_step, lowest_from, with_label, Outgoing}
+use Rattle.sbp_world.proofs.Words.Target.{new_desk, Login, Phase, ReadAhead, AgentState, AgentStep, PointRefusal, Ahead, Main, Machine, is_ahead, is_sent, is_under_way, state_in, doorbell_in, doorbell_step, fetch_step, lost_step, point_in, point_step, quiet, reply_step, reread_step, writes_status, Desk, Purpose, Sent, after_ahead, after_loss, after_main, agent_body, ahead_asked, ahead_sent, ask_ahead, ask_main, dropped_by, follow, lose, lose_main, lost_by, main_asked, main_sent, noted, promoted_by, send_ahead, without_ahead, NodeState, Scene, desk_at, scene, with_agent, with_desk, request_step, sent_by, tell_step, ahead_ask, ahead_under, main_under}
+use Rattle.sbp_world.proofs.Words.Initiator.{Ask, Nothing, Read, Write, FailCause, OrbPointer, At, Null}
 use Rattle.sbp_world.proofs.Words.World.{AsksReally, FollowLaw, IsBare, IsFit, IsSized, IsStill, IsUnder, Left, ahead_body, has_next, main_body, reads_none, uses_buffer}
 use Rattle.label_table.proofs.Owned.{set_at}
 use Rattle.orb_layout.specs.declared.ask.FailCause.TheVariants as causes
@@ -19,6 +19,7 @@ use Rattle.sbp_world.proofs.Agents.Sized.{nothing_sized, read_sized, still_sized
 use Rattle.sbp_world.proofs.Agents.Walk.{desk_set}
 use Rattle.sbp_world.proofs.Agents.Writes.{HasBody, has_body, no_body}
 use Rattle.sbp_world.proofs.Agents.Management.Places.{other_id}
+use Rattle.sbp_target.proofs.Requests.Follows.{told_packets}
 
 -- ---- what left
 pub left_more : (packets : List Outgoing) (packet : Outgoing) (sent : Sent) (body : Option Body) → Left packets sent body → Left (packets ++ packet ∷ []) sent body
@@ -125,24 +126,9 @@ noted_on : (base : NodeState) (q : ℕ) (step : AgentStep) (d : Desk) (s : Scene
 unfolding noted
 noted_on base q step d s b o = promoted_on base q step.promoted (dropped step.dead d) (dropped_by step.dead q s.node) b (dropped_on base q step.dead d s.node b o)
 
-ran_told : (q : ℕ) (m : Machine) (x : Option Outcome) (o : OutboxState) → (tell_ran q m x o).packets ≡ o.packets
-ran_told q m None o = refl
-ran_told q m (Some outcome) o = refl
-
-dead_told : (q : ℕ) (x : Option FailCause) (o : OutboxState) → (tell_dead q x o).packets ≡ o.packets
-dead_told q None o = refl
-dead_told q (Some cause) o = refl
-
-ended_told : (q : ℕ) (m : Machine) (x : Option StatusKind) (o : OutboxState) → (tell_ended q m x o).packets ≡ o.packets
-ended_told q m None o = refl
-ended_told q m (Some status) o = refl
-
 packets_told : (q : ℕ) (step : AgentStep) (s : Scene) → (noted q step s).outbox.packets ≡ s.outbox.packets
-unfolding noted tell_step
-packets_told q step s =
-    let m = (desk_at s.node q).agent in
-    let x = tell_ran q m step.ran s.outbox in
-    ended_told q m step.ended (tell_dead q step.dead x) ∙ dead_told q step.dead x ∙ ran_told q m step.ran s.outbox
+unfolding noted
+packets_told q step s = told_packets q (desk_at s.node q).agent step s.outbox
 
 -- ---- a request that leaves has its body
 abbrev Spells : List ℕ → Option Asked → Type 0

@@ -1,5 +1,5 @@
 -- A time-out of a transaction of an agent, and a cut of its list, leave all desks waiting for what left.
-use Rattle.sbp_world.proofs.Words.Std.{arith, ◌≡◌, ◌≢◌, ◌∙◌, refl, sym, ap, subst, ℕ, ◌<◌, ◌&&◌, nat_eq, Bool, true, false, cond, List, Option, Some, None, length-set, nat_tests, false≢true}
+use Rattle.sbp_world.proofs.Words.Std.{arith, ◌≡◌, ◌≢◌, ◌∙◌, refl, sym, ap, subst, ℕ, ◌<◌, ◌&&◌, nat_eq, Bool, true, false, cond, List, Option, Some, None, length-set, nat_tests}
 use Rattle.sbp_world.proofs.Words.Wire.{LabelParts, Asked, Body, Layer, CutCause, Outgoing, OutboxState}
 use Rattle.sbp_world.proofs.Words.Target.{Login, Table, place_at, AgentStep, Which, Ahead, Main, Machine, is_ahead, is_sent, state_in, is_reset, lost_step, quiet, reset_step, Desk, Purpose, Sent, ask_main, cut, cut_node, follow, noted, send_ahead, told_cut, after, is_that, reset_desk, taken, which_in, NodeState, Scene, desk_at, login_at, scene, with_desk, expire_agent, expired_by, tell_step, request, with_asked}
 use Rattle.sbp_world.proofs.Words.World.{AllAsk, AsksReally, LateLaw, Left, ahead_body, main_body}

@@ -7,7 +7,6 @@ use Rattle.sbp_world.proofs.Words.World.{AllAsk, AsksReally, ManagementAskLaw, m
 use Rattle.mgmt_agent.specs.declared.decision.Effect.TheVariants as effects
 use Rattle.mgmt_agent.specs.Machine as management
 use Rattle.mgmt_agent.proofs.Places.{places_of_effects}
-use Rattle.command_agent.specs.declared.phase.Phase.TheVariants as phases
 use Rattle.sbp_journal.specs.declared.cause.CutCause.TheVariants as cuts
 use Rattle.sbp_target.proofs.Histories.Calling.{Good, not_eight}
 use Rattle.sbp_target.proofs.Histories.Effecting.{Moves, StepMoves, effect_in, leaves, reply_moves}
@@ -24,7 +23,7 @@ use Rattle.sbp_world.proofs.Agents.Sized.{idle_sized, still_sized}
 use Rattle.sbp_world.proofs.Agents.Walk.{desk_set}
 use Rattle.sbp_world.proofs.Agents.Managed.{in_place}
 use Rattle.sbp_world.proofs.Lists.BusyCuts.{in_reset}
-use Rattle.sbp_world.proofs.Agents.Management.Managing.{cut_by, left_sends}
+use Rattle.sbp_target.proofs.Requests.Effects.{cut_packets, left_packets}
 
 -- ---- an agent in RESET waits for nothing
 pub idle_asks : (packets : List Outgoing) (fifo : ℕ) (d : Desk) → is_sent d.agent.phase ≡ false → is_ahead d.agent.ahead ≡ false → AsksReally packets fifo d
@@ -47,7 +46,7 @@ cut_fine : (cause : CutCause) (q : ℕ) (s : Scene) → q < 8 → Fine s → Fin
 unfolding cut reset_step
 cut_fine cause q s b h =
     let d = reset_desk (desk_at s.node q) in
-    set_fine q d s (cut cause q s) b refl refl (cut_by (is_reset (state_in (desk_at s.node q).agent.phase)) q cause s.outbox)
+    set_fine q d s (cut cause q s) b refl refl (cut_packets (is_reset (state_in (desk_at s.node q).agent.phase)) q cause s.outbox)
     (λ login e. idle_asks s.outbox.packets login.fifo d refl refl) h
 
 fine_if : (x : Bool) (y z : Scene) → Fine y → Fine z → Fine (cond x y z)
@@ -82,7 +81,7 @@ logout_fine place subject s b h =
 enter_fine : (place subject : ℕ) (replaced : Option ℕ) (s : Scene) → place < 8 → Fine s → Fine (effect_by (effects.Entered place replaced) subject s)
 enter_fine place subject replaced s b h =
     let d : Desk = record (desk_at s.node place) { pointer = None; is_enabled = false } in
-    set_fine place d s (effect_by (effects.Entered place replaced) subject s) b refl refl (left_sends replaced s.outbox)
+    set_fine place d s (effect_by (effects.Entered place replaced) subject s) b refl refl (left_packets replaced s.outbox)
     (λ login e. (let a = h.all.all place login b e in record { main = a.main; ahead = a.ahead; sized = a.sized })) h
 
 abort_fine : (place orb subject : ℕ) (s : Scene) → place < 8 → Fine s → Fine (effect_by (effects.Abort place orb) subject s)
@@ -133,7 +132,7 @@ module _ (node : NodeState) (g : Good node) (layer : Layer Purpose) (outbox : Ou
         let d = reset_desk (desk_at node place) in
         record {
           desks = length-set node.desks place d ∙ g.mid.size;
-          all = subst (λ (ps : List Outgoing). AllAsk ps now) (sym (cut_by (is_reset (state_in (desk_at node place).agent.phase)) place cuts.Logout outbox)) (record {
+          all = subst (λ (ps : List Outgoing). AllAsk ps now) (sym (cut_packets (is_reset (state_in (desk_at node place).agent.phase)) place cuts.Logout outbox)) (record {
             all = λ p login l e.
                 split (nat_eq p place) (AsksReally outbox.packets login.fifo (desk_at now p))
                 (λ y.

@@ -1,6 +1,6 @@
 -- What an agent has under way behind a step is what the step asked for.
 use Rattle.sbp_world.proofs.Words.Std.{◌≡◌, refl, ap, sym, ◌∙◌, ℕ, ◌+◌, ◌*◌, ◌==◌, ◌++◌, Bool, true, false, cond, length, List, Option, Some, None, Result, Ok, Err, false≢true, true≢false}
-use Rattle.sbp_world.proofs.Words.Target.{Need, Outcome, PlainDisk, need_of, Told, Phase, ReadAhead, AgentStep, Move, PointRefusal, AgentState, Ahead, Main, Machine, chunk_of, is_ahead, is_sent, plan_of, state_in, death_by, reads_table, verdict, abort_step, advanced, ahead_lost, ahead_of, ahead_read, ahead_step, answer_chunk, check_step, checked, chunk_written, data_grown, data_read, data_step, dead_step, doorbell_in, doorbell_step, elements_read, end_step, fail_step, fetch_step, follow_step, judge_step, judged, lost_step, main_lost, next_read, orb_read, point_in, point_step, quiet, ran_as, reply_step, reread_step, run_step, sent, served, table_read, told_or, turn_step, turned, unread_buffer, wait_step, with_ahead, with_outcome, ahead_ask, ahead_under, main_ask, main_under}
+use Rattle.sbp_world.proofs.Words.Target.{Need, Outcome, PlainDisk, need_of, Told, Phase, ReadAhead, AgentStep, Move, PointRefusal, AgentState, Ahead, Main, Machine, chunk_of, is_ahead, is_sent, plan_of, state_in, death_by, reads_table, verdict, abort_step, advanced, ahead_lost, ahead_of, ahead_read, ahead_step, answer_chunk, check_step, checked, chunk_written, data_grown, data_read, data_step, dead_step, doorbell_in, doorbell_step, elements_read, end_step, fetch_step, follow_step, judge_step, judged, lost_step, main_lost, next_read, orb_read, point_in, point_step, quiet, ran_as, reply_step, reread_step, run_step, sent, served, table_read, told_or, turn_step, turned, unread_buffer, wait_step, with_ahead, with_outcome, ahead_ask, ahead_under, main_ask, main_under}
 use Rattle.sbp_world.proofs.Words.Initiator.{Ask, Read, FailCause, OrbPointer, At, Null, StatusKind, command_orb, pointer_at, Answer, payload_of, write_failure, PageFault, elements_of, first_fault}
 use Rattle.sbp_world.proofs.Words.World.{IsBare, IsStill, IsUnder, UnderLaw, reads_none}
 use Rattle.orb_layout.specs.declared.ask.FailCause.TheVariants as causes

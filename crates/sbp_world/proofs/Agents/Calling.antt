@@ -1,6 +1,6 @@
 -- In each call of the target who has a place changes as its logins do.
 use Rattle.sbp_world.proofs.Words.Std.{◌≡◌, ◌∙◌, refl, sym, ap, subst, ℕ, zero, suc, ◌+◌, nat_eq, is_some, Bool, true, false, cond, List, [], length, map, Option, Some, None, Result, Ok, Err, slice_index_or, get_or-map}
-use Rattle.sbp_world.proofs.Words.Wire.{LabelParts, Packet, header_in, Stale, under_way, Finding, Layer, expiring_step, judging_step, of_again, of_generation, of_grammar, of_label, of_request, of_response, reply_kind, Topology, Judged, OutboxState, empty_outbox}
+use Rattle.sbp_world.proofs.Words.Wire.{LabelParts, Packet, header_in, Stale, Finding, Layer, expiring_step, judging_step, of_again, of_generation, of_grammar, of_label, of_request, of_response, reply_kind, Topology, Judged, OutboxState, empty_outbox}
 use Rattle.sbp_world.proofs.Words.Target.{Login, Table, held, is_live, place_at, tick_step, Busy, Disk, Told, Demand, demand_of, Purpose, alone, lets_expire, ticks, manage, managed_in, NodeState, Scene, scene, answer_in, cleared_node, concluded, expired, expired_from, expired_in, held_from, judged_scene, received, received_as, reset_by, tell_held, target_ticked, timed_out, with_layer, Whole, whole, with_side, answered, is_barred, serve, served_as, start, target_started, cut_all}
 use Rattle.sbp_world.proofs.Words.Initiator.{Ask, Answer, Expired}
 use Rattle.sbp_world.proofs.Words.Laws.{at_id, second_gone}

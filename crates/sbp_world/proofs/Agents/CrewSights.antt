@@ -1,7 +1,7 @@
 -- The target sees a generation, a second passes, or a unit gets a key: behind the turn the agents of the terms are the target's.
-use Rattle.sbp_world.proofs.Words.Std.{arith, ◌≡◌, ◌∙◌, refl, sym, ap, subst, ℕ, ◌<◌, ◌≤◌, not, nat_eq, nat_lt, Bool, true, false, cond, List, [], length, nat_tests}
-use Rattle.sbp_world.proofs.Words.Wire.{Node, Layer, seeing_step, seen_in_generation, id_of, Moment, Terms, terms, Outgoing}
-use Rattle.sbp_world.proofs.Words.Target.{Disk, Purpose, alone, sees, ticks, TargetScene, with_key}
+use Rattle.sbp_world.proofs.Words.Std.{arith, ◌≡◌, ◌∙◌, refl, sym, ap, subst, ℕ, ◌<◌, ◌≤◌, not, nat_eq, nat_lt, Bool, true, false, List, [], length}
+use Rattle.sbp_world.proofs.Words.Wire.{Node, seeing_step, id_of, Moment, Terms, terms, Outgoing}
+use Rattle.sbp_world.proofs.Words.Target.{Disk, alone, sees, ticks, TargetScene, with_key}
 use Rattle.sbp_world.proofs.Words.Laws.{Agent, Target, over, reset_seen, target_by}
 use Rattle.sbp_world.proofs.Words.World.{handed_out, told_seen, with_seen, WorldState, with_note, with_target, Stands, Office, office_of, ticked, AreOf, Request, with_requests, AllLeave}
 use Rattle.sbp_journal.specs.declared.note.Note.TheVariants as notes
@@ -20,21 +20,7 @@ use Rattle.sbp_world.proofs.Agents.CrewFirsts.{T, agrees, before, crew_keeps, no
 use Rattle.sbp_world.proofs.Agents.CrewTurns.{Begins, quiet_begins, turned_crew}
 use Rattle.sbp_world.proofs.Agents.Notes.{notes_law}
 use Rattle.sbp_world.proofs.Agents.Purposes.{g}
-
-seen_test : (l g t : ℕ) → l ≤ g → t ≡ l → not (nat_eq g t) ≡ nat_lt l g
-seen_test l g t a e = by_case (nat_lt l g) refl
-  where
-    by_case : (b : Bool) → nat_lt l g ≡ b → not (nat_eq g t) ≡ nat_lt l g
-    by_case true f = let z : nat_eq g t ≡ false = grind (arith, nat_tests) in ap not z ∙ sym f
-    by_case false f = let z : nat_eq g t ≡ true = grind (arith, nat_tests) in ap not z ∙ sym f
-
-pub flag_by : (b : Bool) (x y : Layer Purpose) → (cond {A = Bool × Layer Purpose} b (true, x) (false, y)).0 ≡ b
-flag_by true x y = refl
-flag_by false x y = refl
-
-step_flag : (layer : Layer Purpose) (g id : ℕ) → (seeing_step layer g id).0 ≡ nat_lt layer.generation g
-unfolding seeing_step
-step_flag layer g id = flag_by (nat_lt layer.generation g) (seen_in_generation layer g id) layer
+use Rattle.sbp_world.proofs.Hosts.Knows.{seen_flag, seen_test}
 
 -- a reset that is seen
 seen_office : (later : Bool) (t : Target) → office_of (reset_seen later t) ≡ management.seen later (office_of t)
@@ -114,7 +100,7 @@ module _ (units ready : ℕ) (has : 0 < units) (start : List Disk) {past : List 
       }
 
   later_is : not (nat_eq now (t.generation 0)) ≡ is_later
-  later_is = seen_test w.target.layer.generation now (t.generation 0) ages.below ages.same ∙ sym (step_flag w.target.layer now own_id)
+  later_is = seen_test w.target.layer.generation now (t.generation 0) ages.below ages.same ∙ sym (seen_flag w.target.layer now own_id)
 
   sight_is : term_in start past sight_world ≡ reset_seen is_later own_terms
   sight_is =

@@ -118,11 +118,11 @@ dead_alike u a m al = record {
   status = λ e. absurd (false≢true e);
 }
 
-abbrev is_last : Phase → Bool
+abbrev pub is_last : Phase → Bool
 is_last phases.WritingLastStatus = true
 is_last _ = false
 
-last_is : (p : Phase) → is_last p ≡ true → p ≡ phases.WritingLastStatus
+pub last_is : (p : Phase) → is_last p ≡ true → p ≡ phases.WritingLastStatus
 last_is phases.Reset e = absurd (false≢true e)
 last_is phases.Suspended e = absurd (false≢true e)
 last_is phases.WritingLastStatus e = refl

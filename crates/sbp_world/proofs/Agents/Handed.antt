@@ -1,4 +1,5 @@
 -- What a serial is for, by the terms, is what its transaction is under way for at the target.
+use Rattle.sbp_world.proofs.Common.{serial_is}
 use Rattle.sbp_world.proofs.Words.Std.{arith, ◌≡◌, ◌∙◌, refl, sym, ap, subst, inl, inr, ℕ, zero, suc, ◌+◌, ◌<◌, ◌⊎◌, nat_eq, is_some, Bool, true, false, cond, List, [], ◌∷◌, length, Option, Some, None, nat_tests, false≢true}
 use Rattle.sbp_world.proofs.Words.Wire.{transaction, Layer, find, serial_at, request_of, BusRequest, Moment, Kind, Transaction, begun_by, Terms, terms, waits}
 use Rattle.sbp_world.proofs.Words.Target.{Which, Ahead, Main, source_in, Disk, Purpose, Sent, desk_at, IsThat, IsUnderWay, TransactionLaw}
@@ -49,10 +50,6 @@ among_at k (a ∷ agents) (suc i) serial which l n e =
     past_one k a serial (purpose_among (k + 1) agents serial) (n zero (omega arith))
     ∙ among_at (k + 1) agents i serial which (omega arith) (λ j m. n (suc j) (omega arith)) e
     ∙ ap (λ m. for_agent m which) same
-
-pub is_its_serial : (x : Option ℕ) (serial : ℕ) → is_serial x serial ≡ true → x ≡ Some serial
-is_its_serial None serial e = absurd (false≢true e)
-is_its_serial (Some s) serial e = let same : s ≡ serial = grind (arith, nat_tests) in ap Some same
 
 is_that_serial : (x : Option ℕ) (s serial : ℕ) → x ≡ Some s → s ≡ serial → is_serial x serial ≡ true
 is_that_serial x s serial e f = ap (λ m. is_serial m serial) e ∙ (let z : nat_eq s serial ≡ true = grind (arith, nat_tests) in z)
@@ -191,11 +188,11 @@ module _ (units ready : ℕ) (has : 0 < units) (start : List Disk) {past : List 
         where
           main_by : (x : Bool) → is_serial (agent_in T.agents p).main serial ≡ x → x ≡ false
           main_by false e = refl
-          main_by true e = absurd (n (main_kept p b (is_its_serial (agent_in T.agents p).main serial e)).fit.purpose_is)
+          main_by true e = absurd (n (main_kept p b (serial_is (agent_in T.agents p).main serial e)).fit.purpose_is)
 
           ahead_by : (x : Bool) → is_serial (agent_in T.agents p).ahead serial ≡ x → x ≡ false
           ahead_by false e = refl
-          ahead_by true e = absurd (n (ahead_kept p b (is_its_serial (agent_in T.agents p).ahead serial e)).fit.purpose_is)
+          ahead_by true e = absurd (n (ahead_kept p b (serial_is (agent_in T.agents p).ahead serial e)).fit.purpose_is)
 
       -- the operation
       abbrev manages : Option ℕ
@@ -270,7 +267,7 @@ module _ (units ready : ℕ) (has : 0 < units) (start : List Disk) {past : List 
 
         by_test : (x : Bool) → is_serial (agent_in T.agents place).main serial ≡ x → IsForAgent T w.target place (ids peer) number serial
         by_test true e =
-            let k = main_kept place b (is_its_serial (agent_in T.agents place).main serial e) in
+            let k = main_kept place b (serial_is (agent_in T.agents place).main serial e) in
             record { which = Main; is = waits_as Main e; kept = record { sent = k.sent; is = k.is; peer_is = k.fit.peer_is; number_is = k.fit.number_is } }
         by_test false e = by_that e ((L.agents_have place b).no_more (ids peer) number here)
 

@@ -1,4 +1,5 @@
 -- Who has a place of the target's logins, in every run.
+use Rattle.sbp_world.proofs.Making.{ready_few}
 use Rattle.sbp_world.proofs.Words.Std.{arith, ◌≡◌, ◌≢◌, ◌∙◌, refl, sym, ap, subst, ℕ, zero, suc, ◌+◌, ◌^◌, ◌<◌, ◌≤◌, ◌&&◌, nat_eq, Bool, true, false, cond, List, [], ◌∷◌, ◌++◌, length, map, Option, Some, None, unwrap_or, nat_tests, get_or-replicate, false≢true}
 use Rattle.sbp_world.proofs.Words.Wire.{Topology, Holder, first_ids, first_topology, id_of, no_topology, topology_at, holder_of, new_places, place_in, Moment, asked, said, Terms, local_id, terms}
 use Rattle.sbp_world.proofs.Words.Target.{Login, IsSound, Table, find, is_live, is_of_node, place_at, Operation, source_in, Disk}
@@ -218,10 +219,6 @@ module _ (n : ℕ) (is_ready : Bool) (units : ℕ) (few : n ≤ 4) where
       (known_has top n (0xffc1 + i) (ids_size (n + 1) ∙ (let e : n + 1 ≡ suc n = omega arith in e)) (record { node = suc i; there = omega arith; id_is = of.0 ∙ same }))
       (λ e. absurd (omega (arith, own, e)))
 
-  ready_few : (r : Bool) (i : ℕ) → i < ready_logins n r → i < n
-  ready_few true i l = l
-  ready_few false i l = absurd (omega arith)
-
   first_seats : (line : ℕ) (start : List Disk) → units ≤ 4 → length start ≡ units → Seats (new_world n is_ready units)
   unfolding new_world
   first_seats line start small size =
@@ -235,7 +232,7 @@ module _ (n : ℕ) (is_ready : Bool) (units : ℕ) (few : n ≤ 4) where
       } in
       record {
         placed = subst (λ (x : Topology). Placed (Of x) w.target.logins.places w.places) (sym first_seen) (subst (λ (x : Table). Placed (Of top) x.places w.places) table first);
-        peers = subst (λ (x : Topology). Holds (Peer x) w.target) (sym first_seen) ((fitting_law (is_peer top) (is_peer top)).begins units (ready_logins n is_ready) (λ i l. first_peer i (ready_few is_ready i l)));
+        peers = subst (λ (x : Topology). Holds (Peer x) w.target) (sym first_seen) ((fitting_law (is_peer top) (is_peer top)).begins units (ready_logins n is_ready) (λ i l. first_peer i (ready_few n is_ready i l)));
         leaves = tt;
       }
 

@@ -1,5 +1,5 @@
 -- A turn of the management operation changes the agents as its notes do.
-use Rattle.sbp_world.proofs.Words.Std.{arith, ◌≡◌, ◌≢◌, ◌∙◌, refl, sym, ap, subst, ℕ, zero, suc, ◌+◌, ◌<◌, nat_eq, nat_lt, Bool, true, false, cond, List, [], ◌∷◌, length, map, Option, Some, None, slice_set, length-set, nat_tests, false≢true, true≢false}
+use Rattle.sbp_world.proofs.Words.Std.{arith, ◌≡◌, ◌≢◌, ◌∙◌, refl, sym, ap, subst, ℕ, zero, suc, ◌+◌, ◌<◌, nat_eq, nat_lt, Bool, true, false, cond, List, [], ◌∷◌, length, map, Option, Some, None, slice_set, length-set, nat_tests, false≢true}
 use Rattle.sbp_world.proofs.Words.Wire.{Layer, CutCause, empty_outbox, function_word, login_if}
 use Rattle.sbp_world.proofs.Words.Target.{Login, IsTable, Table, is_live, place_at, Decision, Effect, ManagerStep, PlaceBelow, Phase, is_ahead, is_sent, state_in, abort_step, is_reset, reset_step, writes_status, is_of_unit, Desk, Purpose, cut, new_desk, ask_manager, clear_one, cut_placed, node_decided, effect_by, failed_by, manage, managed_in, managed_with, place_in, tell_left, with_manager, NodeState, Scene, desk_at, login_at, scene, with_desk, clear_from, clear_unit, cut_all}
 use Rattle.sbp_world.proofs.Words.Initiator.{Answer}

@@ -1,6 +1,6 @@
 -- What the requests of the target are for, in every run.
 use Rattle.sbp_world.proofs.Words.Std.{arith, ◌≡◌, ◌∙◌, refl, sym, ap, subst, ℕ, ◌<◌, List, length, map, Option, Some, None, position, slice_index_or, get_or-map}
-use Rattle.sbp_world.proofs.Words.Wire.{LabelParts, bare, bare_place, awaits, kind_as, shape, shape_of, Node, transaction, LabelState, ReplyKind, under_way, Layer, is_owned_by, or_else, owned_place, shown_in, PeerPlace, no_peer, peer_of, purpose_for, state_for, place_at, topology_at, find, serial_at, request_of, Moment, Kind, Held, Terms, free, rests, terms, waits}
+use Rattle.sbp_world.proofs.Words.Wire.{LabelParts, bare, bare_place, awaits, kind_as, shape, shape_of, Node, transaction, LabelState, ReplyKind, under_way, Layer, is_owned_by, or_else, owned_place, shown_in, PeerPlace, no_peer, peer_of, last_for, purpose_for, state_for, place_at, Place, topology_at, find, serial_at, request_of, Moment, Kind, Held, Terms, free, rests, terms, waits}
 use Rattle.sbp_world.proofs.Words.Target.{source_in, Disk, Purpose, Sent, desk_at, IsUnderWay, TransactionLaw}
 use Rattle.sbp_world.proofs.Words.Laws.{target_at}
 use Rattle.sbp_world.proofs.Words.World.{WorldState, Stands, Awaits, ArePurposesAt, HasPurpose}
@@ -31,16 +31,22 @@ module _ {P : Type 0} where
       ap (λ o. or_else o (position (is_owned_by peer_of None) (map bare_place peers))) (position_map (is_owned_by peer_of (Some peer)) bare_place peers)
       ∙ ap (or_else (position (is_owned_by peer_of (Some peer)) peers)) (position_map (is_owned_by peer_of None) bare_place peers)
 
-  state_at_bare : (number : ℕ) (peers : List (PeerPlace P)) (k : Option ℕ) → shown_in (λ (place : PeerPlace (Unit {0})). (place_at place.table number).state) no_peer states.Free k (map bare_place peers) ≡ shown_in (λ (place : PeerPlace P). (place_at place.table number).state) no_peer states.Free k peers
-  state_at_bare number peers None = refl
-  state_at_bare number peers (Some k) =
-      ap (λ (vacant : PeerPlace (Unit {0})). (place_at (slice_index_or (map bare_place peers) k vacant).table number).state) (sym (peer_bare P))
-      ∙ ap (λ (place : PeerPlace (Unit {0})). (place_at place.table number).state) (get_or-map bare_place peers k no_peer)
+  looked_at_bare : {B : Type 0} (look : Place → B) (blank : B) (number : ℕ) (peers : List (PeerPlace P)) (k : Option ℕ) → shown_in (λ (place : PeerPlace (Unit {0})). look (place_at place.table number)) no_peer blank k (map bare_place peers) ≡ shown_in (λ (place : PeerPlace P). look (place_at place.table number)) no_peer blank k peers
+  looked_at_bare look blank number peers None = refl
+  looked_at_bare look blank number peers (Some k) =
+      ap (λ (vacant : PeerPlace (Unit {0})). look (place_at (slice_index_or (map bare_place peers) k vacant).table number)) (sym (peer_bare P))
+      ∙ ap (λ (place : PeerPlace (Unit {0})). look (place_at place.table number)) (get_or-map bare_place peers k no_peer)
+
+  looked_bare : {B : Type 0} (look : Place → B) (blank : B) (layer : Layer P) (peer number : ℕ) → shown_in (λ (place : PeerPlace (Unit {0})). look (place_at place.table number)) no_peer blank (owned_place peer_of peer (bare layer).peers) (bare layer).peers ≡ shown_in (λ (place : PeerPlace P). look (place_at place.table number)) no_peer blank (owned_place peer_of peer layer.peers) layer.peers
+  looked_bare look blank layer peer number =
+      ap (λ k. shown_in (λ (place : PeerPlace (Unit {0})). look (place_at place.table number)) no_peer blank k (map bare_place layer.peers)) (owned_bare peer layer.peers)
+      ∙ looked_at_bare look blank number layer.peers (owned_place peer_of peer layer.peers)
 
   pub state_bare : (layer : Layer P) (peer number : ℕ) → state_for (bare layer).peers peer number ≡ state_for layer.peers peer number
-  state_bare layer peer number =
-      ap (λ k. shown_in (λ (place : PeerPlace (Unit {0})). (place_at place.table number).state) no_peer states.Free k (map bare_place layer.peers)) (owned_bare peer layer.peers)
-      ∙ state_at_bare number layer.peers (owned_place peer_of peer layer.peers)
+  state_bare layer peer number = looked_bare (λ place. place.state) states.Free layer peer number
+
+  pub last_bare : (layer : Layer P) (peer number : ℕ) → last_for (bare layer).peers peer number ≡ last_for layer.peers peer number
+  last_bare layer peer number = looked_bare (λ place. place.last) None layer peer number
 
 -- ---- a label that waits, at its table and on the wire
 pub record Waits (held : Held) : Type 0 where

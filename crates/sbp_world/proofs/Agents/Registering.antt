@@ -1,5 +1,5 @@
 -- After each line of a world, and behind each delivery of one, the terms have the target's registers enabled.
-use Rattle.sbp_world.proofs.Words.Std.{arith, ◌≡◌, ◌∙◌, refl, sym, ap, subst, ℕ, zero, suc, ◌+◌, ◌-◌, ◌^◌, ◌<◌, ◌≤◌, not, nat_eq, nat_lt, Bool, true, false, cond, List, [], ◌∷◌, ◌++◌, length, map, Option, Some, None, Result, Ok, Err, if◌then◌else◌, slice_index_or, slice_set, common_steps, false≢true}
+use Rattle.sbp_world.proofs.Words.Std.{arith, ◌≡◌, ◌∙◌, refl, sym, ap, subst, ℕ, zero, suc, ◌+◌, ◌-◌, ◌^◌, ◌<◌, ◌≤◌, not, nat_eq, nat_lt, Bool, true, false, cond, List, [], ◌∷◌, ◌++◌, length, map, Option, Some, None, Result, Ok, Err, if◌then◌else◌, slice_index_or, slice_set, common_steps}
 use Rattle.sbp_world.proofs.Words.Wire.{as_sending, Stale, Sent, found_sent, Request, id_of, end_note, judged_note, no_node, no_packet, find, Judged, Action, Event, Note, Side, OutboxState, empty_outbox, Moment, asked, said, terms}
 use Rattle.sbp_world.proofs.Words.Target.{Disk, Told, alone, lets_expire, Desk, new_desk, NodeState, scene, expired, received, with_key}
 use Rattle.sbp_world.proofs.Words.Initiator.{Expired, act_step, Turn, new_state, expire_step, receive_step, see_step}

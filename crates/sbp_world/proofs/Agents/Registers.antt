@@ -1,5 +1,5 @@
 -- A time-out of a transaction of an agent, and a write of its registers, to its term.
-use Rattle.sbp_world.proofs.Words.Std.{arith, ◌≡◌, ◌≢◌, ◌∙◌, refl, sym, ap, subst, ℕ, ◌<◌, nat_eq, is_some, Bool, true, false, cond, List, [], length, Option, Some, None, Ok, length-set, false≢true, true≢false}
+use Rattle.sbp_world.proofs.Words.Std.{arith, ◌≡◌, ◌≢◌, ◌∙◌, refl, sym, ap, subst, ℕ, ◌<◌, nat_eq, is_some, Bool, true, false, cond, List, [], length, Option, Some, None, Ok, length-set}
 use Rattle.sbp_world.proofs.Words.Wire.{Packet, Layer, empty_outbox}
 use Rattle.sbp_world.proofs.Words.Target.{Login, PlainDisk, Outcome, Phase, AgentState, AgentStep, Which, Ahead, Main, Machine, aligned, is_ahead, is_sent, present_of, state_in, asks, doorbell_in, doorbell_step, fetch_step, lost_step, point_in, point_step, reply_step, reread_step, Desk, Purpose, Sent, follow, expired_desk, new_desk, pointed_desk, NodeState, Scene, desk_at, login_at, scene, with_desk, expired_with, answer_step, with_side, answered, asked_in, point, pointed_by, ring, rung_by, orb_of}
 use Rattle.sbp_world.proofs.Words.Initiator.{Ask, Nothing, OrbPointer, At, Null, Expired}

@@ -1,6 +1,6 @@
 -- What the target tells in a call changes who has a place as it changes its logins.
-use Rattle.sbp_world.proofs.Words.Std.{arith, ◌≡◌, ◌∙◌, refl, sym, ap, subst, ℕ, suc, ◌<◌, ◌%◌, nat_eq, Bool, true, false, cond, List, [], ◌∷◌, ◌++◌, length, Option, Some, None, is_none, position, false≢true}
-use Rattle.sbp_world.proofs.Words.Wire.{Asked, Body, Layer, asking_step, Topology, Holder, GenerationsState, id_of, back_step, enter_step, holder_of, put_at, decided_places, managed_places, function_word, login_if, FunctionWord, Side, OutboxState, empty_outbox}
+use Rattle.sbp_world.proofs.Words.Std.{arith, ◌≡◌, ◌∙◌, refl, sym, ap, subst, ℕ, suc, ◌<◌, ◌%◌, nat_eq, Bool, true, false, cond, List, [], ◌∷◌, ◌++◌, length, Option, Some, None, is_none, position}
+use Rattle.sbp_world.proofs.Words.Wire.{Asked, Body, Layer, asking_step, Topology, Holder, GenerationsState, id_of, back_step, enter_step, holder_of, put_at, decided_places, function_word, login_if, FunctionWord, Side, OutboxState, empty_outbox}
 use Rattle.sbp_world.proofs.Words.Target.{Login, Table, entered, Decision, Effect, ManagerStep, asked_by, Purpose, ask_manager, decided_by, effect_by, failed_by, lose_operation, lost_in, managed_with, manager_asked, manager_body, manager_lost, manager_sent, place_in, tell_failed, with_manager, NodeState, Scene, scene, asks_step, sent_by, cut_all}
 use Rattle.sbp_world.proofs.Words.Initiator.{Ask, FailCause, Answer}
 use Rattle.sbp_world.proofs.Words.Laws.{Decided, laws_decided, keep_decided, source_in}

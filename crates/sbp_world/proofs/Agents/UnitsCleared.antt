@@ -2,7 +2,7 @@
 -- clear them over the logins that stood before the decision, and no other decision changes any.
 use Rattle.sbp_world.proofs.Words.Std.{arith, ◌≡◌, ◌∙◌, refl, sym, ap, subst, ℕ, zero, suc, ◌+◌, ◌<◌, ◌==◌, nat_lt, not, Bool, true, false, cond, List, [], ◌∷◌, ◌++◌, length, Option, Some, None, Result, Ok, Err, slice_set, length-set, nat_tests, set-get_or}
 use Rattle.sbp_world.proofs.Words.Wire.{Side, OutboxState, empty_outbox}
-use Rattle.sbp_world.proofs.Words.Target.{Entered, Login, LoginRefusal, IsSound, Table, back_step, enter_step, leave_step, units_places, Decision, Effect, ManagerStep, Function, Operation, asked_by, back_decided, decide, decide_function, key_at, lacks_key, left_decided, login_decided, reads_eui, unit_exists, with_status, beside, decide_step, eui_step, high_eui_at, high_got, low_got, orb_got, reply_in, reply_to, response_written, status_written, function_of, Disk, no_disk, PlainDisk, UnitState, ask_manager, clear_one, cut_placed, decided_by, effect_by, failed_by, manage, managed_in, managed_with, place_in, tell_left, with_manager, NodeState, Scene, scene, clear_from, clear_unit, cut_all, mask_of}
+use Rattle.sbp_world.proofs.Words.Target.{Entered, Login, LoginRefusal, IsSound, Table, back_step, enter_step, leave_step, units_places, Decision, Effect, ManagerStep, Function, Operation, asked_by, back_decided, decide, decide_function, key_at, lacks_key, left_decided, login_decided, reads_eui, unit_exists, with_status, beside, decide_step, eui_step, high_eui_at, low_got, orb_got, reply_in, reply_to, function_of, Disk, no_disk, PlainDisk, UnitState, ask_manager, clear_one, cut_placed, decided_by, effect_by, failed_by, manage, managed_in, managed_with, place_in, tell_left, with_manager, NodeState, Scene, scene, clear_from, clear_unit, cut_all, mask_of}
 use Rattle.sbp_world.proofs.Words.Initiator.{FailCause, ManagementOrb, management_orb, Answer, payload_of}
 use Rattle.sbp_world.proofs.Words.Laws.{left_by_reset, places_of, unit_at}
 use Rattle.mgmt_agent.specs.declared.decision.Effect.TheVariants as effects

@@ -1,9 +1,9 @@
 -- A serial that is for an agent, by the terms, is one that it waits for.
+use Rattle.sbp_world.proofs.Common.{serial_is}
 use Rattle.sbp_world.proofs.Words.Std.{arith, ◌≡◌, refl, sym, subst, ℕ, suc, ◌+◌, ◌<◌, Bool, true, false, cond, List, [], ◌∷◌, length, Some}
 use Rattle.sbp_world.proofs.Words.Target.{Which, Ahead, Main}
 use Rattle.sbp_world.proofs.Words.Laws.{Agent, Purpose, Target, for_agent, for_manager, for_nobody, is_serial, purpose_among, purpose_of}
 use Rattle.sbp_world.proofs.Words.World.{serial_of, agent_in}
-use Rattle.sbp_world.proofs.Agents.Handed.{is_its_serial}
 
 -- one of these agents, the first of which has place k, waits for it
 record IsAt (k : ℕ) (agents : List Agent) (serial place : ℕ) (which : Which) : Type 0 where
@@ -38,8 +38,8 @@ among_at k [] serial place which e = absurd (nobody_not place which e)
 among_at k (a ∷ agents) serial place which e = by (is_serial a.main serial) (is_serial a.ahead serial) refl refl (λ f. among_at (k + 1) agents serial place which f) e
   where
     by : (x y : Bool) → is_serial a.main serial ≡ x → is_serial a.ahead serial ≡ y → (purpose_among (k + 1) agents serial ≡ for_agent place which → IsAt (k + 1) agents serial place which) → cond x (for_agent k Main) (cond y (for_agent k Ahead) (purpose_among (k + 1) agents serial)) ≡ for_agent place which → IsAt k (a ∷ agents) serial place which
-    by true y f g rest e = first_at k a agents serial place Main which e (is_its_serial a.main serial f)
-    by false true f g rest e = first_at k a agents serial place Ahead which e (is_its_serial a.ahead serial g)
+    by true y f g rest e = first_at k a agents serial place Main which e (serial_is a.main serial f)
+    by false true f g rest e = first_at k a agents serial place Ahead which e (serial_is a.ahead serial g)
     by false false f g rest e = later_at k a agents serial place which (rest e)
 
 not_managed : (b : Bool) (rest : Purpose) (place : ℕ) (which : Which) → cond b for_manager rest ≡ for_agent place which → rest ≡ for_agent place which

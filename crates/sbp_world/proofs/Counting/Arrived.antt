@@ -1,8 +1,8 @@
 -- A delivery is one arrival at most: what a node tells and sends is none.
-use Rattle.sbp_world.proofs.Words.Std.{arith, ◌≡◌, ◌∙◌, refl, sym, ap, ℕ, suc, ◌+◌, ◌≤◌, Bool, true, false, List, [], ◌∷◌, ◌++◌, map, Option}
-use Rattle.sbp_world.proofs.Words.Wire.{Judged, Moment, Note, end_note, judged_note, said}
+use Rattle.sbp_world.proofs.Words.Std.{arith, ◌≡◌, ◌∙◌, refl, sym, ap, ℕ, suc, ◌≤◌, false, List, [], ◌∷◌, ◌++◌, map, Option}
+use Rattle.sbp_world.proofs.Words.Wire.{Judged, Moment, Note, judged_note, said}
 use Rattle.sbp_world.proofs.Words.Target.{Told}
-use Rattle.sbp_world.proofs.Words.World.{MayReceive, Scene, WorldState, delivered}
+use Rattle.sbp_world.proofs.Words.World.{MayReceive, Scene, delivered}
 use Rattle.sbp_journal.specs.declared.cause.Judged.TheVariants as judgements
 use Rattle.sbp_journal.specs.declared.note.Note.TheVariants as notes
 use Rattle.sbp_laws.specs.Completion.{arrivals}

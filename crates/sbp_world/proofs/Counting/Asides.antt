@@ -1,6 +1,6 @@
 -- What leaves the target, who has its places, and the history of its lists, leaves what the target is yet to send.
-use Rattle.sbp_world.proofs.Words.Std.{arith, ◌≡◌, ◌∙◌, refl, sym, ap, subst, ℕ, zero, suc, ◌+◌, ◌-◌, ◌*◌, ◌<◌, ◌≤◌, ◌==◌, ◌&&◌, nat_eq, nat_tests, is_some, Bool, true, false, cond, List, [], ◌∷◌, ◌++◌, length, Option, Some, None, slice_index_or, slice_set}
-use Rattle.sbp_world.proofs.Words.Wire.{Holder, Moment, Outgoing, Sent, Terms, holder_at, terms}
+use Rattle.sbp_world.proofs.Words.Std.{arith, ◌≡◌, ◌∙◌, refl, ap, ℕ, zero, suc, ◌+◌, ◌-◌, ◌<◌, ◌≤◌, ◌==◌, ◌&&◌, nat_tests, is_some, Bool, true, false, cond, List, [], ◌∷◌, length, Option, Some, None, slice_index_or, slice_set}
+use Rattle.sbp_world.proofs.Words.Wire.{Moment, Outgoing, Sent, Terms, holder_at}
 use Rattle.sbp_world.proofs.Words.Target.{NodeState}
 use Rattle.sbp_world.proofs.Words.Initiator.{InitiatorState}
 use Rattle.sbp_world.proofs.Words.Laws.{command_at, ends}

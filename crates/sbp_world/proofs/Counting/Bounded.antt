@@ -1,13 +1,12 @@
 -- Deliveries are bounded where a number falls with each of them that is no more than the budget where the run is lossless: turn by turn, from the line on before which it is.
-use Rattle.sbp_world.proofs.Words.Std.{arith, ◌≡◌, ◌∙◌, refl, sym, ap, subst, ℕ, ◌+◌, ◌<◌, ◌≤◌, Bool, List, [], ◌∷◌, ◌++◌, map}
+use Rattle.sbp_world.proofs.Words.Std.{arith, ◌≡◌, ◌∙◌, refl, sym, ap, subst, ℕ, ◌+◌, ◌≤◌, List, [], ◌∷◌, ◌++◌, map}
 use Rattle.sbp_world.proofs.Words.Wire.{Event, Note, Moment, asked, said, end_note}
-use Rattle.sbp_world.proofs.Words.Target.{Disk, Told}
-use Rattle.sbp_world.proofs.Words.World.{happens, MayNext, delivered_next, settled_from, Scene, WorldState, begun}
+use Rattle.sbp_world.proofs.Words.World.{happens, delivered_next, Scene, WorldState}
 use Rattle.sbp_laws.specs.Budget.{Lossless, budget}
 use Rattle.sbp_journal.specs.declared.note.Note.TheVariants as notes
 use Rattle.sbp_laws.specs.Completion.{AllDeliver, BoundedDeliveries, IsDelivering, arrivals, in_the_air}
 use Rattle.sbp_world.proofs.Agents.Management.Still.{hist}
-use Rattle.sbp_world.proofs.Lists.Walks.{Step, Turn, Walks, by_delivery, by_end, by_line, by_start}
+use Rattle.sbp_world.proofs.Lists.Walks.{Turn, by_delivery, by_end, by_line, by_start}
 
 -- ---- a line is asked for behind some notes
 -- the moments behind it, but for these notes

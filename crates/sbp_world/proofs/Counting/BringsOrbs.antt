@@ -82,7 +82,7 @@ read_has found slot read o =
     (subst (λ (f : Option Cmd). HasAtMost (tables_of f) (chunks_of f) (orb_for o.cmd o.node slot read.next read.format)) (sym o.command) (orb_has o.cmd o.node slot read.next read.format))
 
 -- and its buffer, by the limit of that ORB
-buffer_by : (found : Option Cmd) (slot : ℕ) (orb : CommandOrb) (segments : List Segment) → IsOrbOf found slot orb → IsBufferOf found slot segments → pieces_from segments (limit_of orb) 0 ≤ chunks_of found
+pub buffer_by : (found : Option Cmd) (slot : ℕ) (orb : CommandOrb) (segments : List Segment) → IsOrbOf found slot orb → IsBufferOf found slot segments → pieces_from segments (limit_of orb) 0 ≤ chunks_of found
 buffer_by None slot orb segments o buffer = absurd buffer
 buffer_by (Some cmd) slot orb segments o buffer =
     let same : cmd ≡ o.cmd = (let e = o.command in cc) in

@@ -1,14 +1,12 @@
 -- Over every run in which nobody injected packets the deliveries are bounded, and a `settle` settles.
-use Rattle.sbp_world.proofs.Words.Std.{arith, ◌≡◌, ◌∙◌, refl, sym, ap, subst, inl, ℕ, suc, ◌+◌, ◌^◌, ◌<◌, ◌≤◌, Bool, List, [], ◌∷◌, ◌++◌, map, length, Option}
-use Rattle.sbp_world.proofs.Words.Wire.{Event, Moment, asked, said}
-use Rattle.sbp_world.proofs.Words.Target.{Disk}
+use Rattle.sbp_world.proofs.Words.Std.{arith, ◌≡◌, ◌∙◌, refl, sym, ap, subst, inl, ℕ, ◌+◌, ◌^◌, ◌<◌, ◌≤◌, Bool, List, [], ◌∷◌, ◌++◌, map, length}
+use Rattle.sbp_world.proofs.Words.Wire.{Moment, asked, said}
 use Rattle.sbp_world.proofs.Words.Initiator.{InitiatorState}
-use Rattle.sbp_world.proofs.Words.World.{Always, AreEntries, AreLines, Entry, IsCalm, IsRun, Run, Under, WorldState, after, after_all, beginning, begun, history_of, initiator_at, moments_behind, more_deliveries, new_world, ready_logins}
+use Rattle.sbp_world.proofs.Words.World.{Always, AreEntries, AreLines, Entry, IsCalm, IsRun, Run, Under, after, after_all, beginning, begun, history_of, initiator_at, moments_behind, more_deliveries, new_world, ready_logins}
 use Rattle.sbp_initiator.proofs.Quadlets.{quadlet_law}
 use Rattle.sbp_journal.specs.Run.{history}
 use Rattle.sbp_journal.specs.declared.event.Event.TheVariants as events
-use Rattle.sbp_laws.specs.Completion.{BoundedDeliveries, CompletesByCount, IsDelivering}
-use Rattle.sbp_laws.specs.LineLaw.{LineLaw}
+use Rattle.sbp_laws.specs.Completion.{BoundedDeliveries, IsDelivering}
 use Rattle.sbp_target.proofs.Requests.Received.{deliveries_are_counted}
 use Rattle.sbp_target.proofs.SoundAgents.Calls.{agents_stay_sound}
 use Rattle.sbp_world.specs.Counting.Bounded.{CompletionLaw}

@@ -1,13 +1,12 @@
 -- Turn by turn what is left of a run falls with each delivery: so deliveries are bounded, from each line on before which the run is lossless.
-use Rattle.sbp_world.proofs.Words.Std.{arith, ◌≡◌, ◌∙◌, refl, sym, ap, subst, ℕ, zero, suc, ◌+◌, ◌<◌, ◌≤◌, nat_lt, nat_tests, Bool, true, false, cond, List, [], ◌∷◌, ◌++◌, map, length, Option, Some, None}
-use Rattle.sbp_world.proofs.Words.Wire.{Event, Moment, Note, Sent, Stored, Terms, asked, end_note, found_sent, is_flying, no_packet, said, terms, topology_at}
-use Rattle.sbp_world.proofs.Words.Target.{Disk, NodeState, Told}
+use Rattle.sbp_world.proofs.Words.Std.{arith, ◌≡◌, ◌∙◌, refl, sym, ap, subst, ℕ, zero, suc, ◌+◌, ◌<◌, ◌≤◌, nat_lt, nat_tests, Bool, true, false, List, [], ◌∷◌, length, Option, Some, None}
+use Rattle.sbp_world.proofs.Words.Wire.{Event, Moment, Note, Sent, Stored, asked, found_sent, is_flying, no_packet, said, terms}
+use Rattle.sbp_world.proofs.Words.Target.{Disk, Told}
 use Rattle.sbp_world.proofs.Words.Laws.{ends, is_cut}
-use Rattle.sbp_world.proofs.Words.World.{Arrival, IsCalm, MayAt, MayHappen, MayIf, MayNext, MayReceive, MayTell, MayTold, NoneInjected, OpenLists, Scene, WorldState, begun, delivered, delivered_at, delivered_by, delivered_if, delivered_next, happens, initiator_at, is_in_flight, is_open_at, lowest, machine_at, received_by, received_step, refused, settled_from, with_note, without_notes}
+use Rattle.sbp_world.proofs.Words.World.{Arrival, MayAt, MayHappen, MayIf, MayNext, MayReceive, MayTell, MayTold, Scene, WorldState, begun, delivered, delivered_at, delivered_by, delivered_if, delivered_next, happens, initiator_at, is_in_flight, lowest, received_by, received_step, refused, settled_from, with_note}
 use Rattle.sbp_journal.specs.Outgoings.{OutboxState}
 use Rattle.sbp_journal.specs.declared.event.Event.TheVariants as events
 use Rattle.sbp_journal.specs.declared.note.Note.TheVariants as notes
-use Rattle.sbp_laws.specs.Budget.{Lossless, budget}
 use Rattle.sbp_laws.specs.Completion.{arrivals}
 use Rattle.sbp_target.specs.RequestsLeft.{DeliveriesAreCounted}
 use Rattle.sbp_target.specs.SoundAgents.{AgentsAreSound, CallsKeepSound}
@@ -16,24 +15,21 @@ use Rattle.sbp_world.specs.Counting.Brings.{AreFew}
 use Rattle.sbp_world.specs.Counting.Left.{left, quadlets_left}
 use Rattle.sbp_world.specs.Counting.Wire.{is_unjudged, wire}
 use Rattle.sbp_world.specs.Lists.OwnLogins.{IsTame}
-use Rattle.sbp_world.proofs.Agents.Management.Holding.{Holding}
 use Rattle.sbp_world.proofs.Agents.Management.Lines.{opens}
 use Rattle.sbp_world.proofs.Agents.Management.Still.{hist}
 use Rattle.sbp_world.proofs.Agents.Peers.{AreNoLoops}
 use Rattle.sbp_world.proofs.Counting.Asides.{nodes_aside, wire_less}
 use Rattle.sbp_world.proofs.Counting.Bounded.{DeliversIn, Falls, IsBound, turn_bound}
 use Rattle.sbp_world.proofs.Counting.Delivers.{IsBehind, IsReady, own_falls, target_falls}
-use Rattle.sbp_world.proofs.Counting.Grown.{Goes, IsNoAppend, one_moment}
-use Rattle.sbp_world.proofs.Counting.News.{news_rise}
+use Rattle.sbp_world.proofs.Counting.Grown.{IsNoAppend, one_moment}
 use Rattle.sbp_world.proofs.Counting.Others.{IsAside, line_aside}
 use Rattle.sbp_world.proofs.Counting.Places.{IsPlace}
 use Rattle.sbp_world.proofs.Counting.StartLeft.{AtStart, left_at_start}
-use Rattle.sbp_world.proofs.Counting.TargetFalls.{IsBefore, IsListed}
 use Rattle.sbp_world.proofs.Counting.TargetKeeps.{turn_keeps}
-use Rattle.sbp_world.proofs.Counting.Worked.{AreWithin, AreWorking, are_working}
+use Rattle.sbp_world.proofs.Counting.Worked.{AreWorking, are_working}
 use Rattle.sbp_world.proofs.Lists.Calm.{calm_before}
-use Rattle.sbp_world.proofs.Lists.Gots.{turn_next}
-use Rattle.sbp_world.proofs.Lists.PlaceOwners.{IsSeatedWell, Owns, walk_owns}
+use Rattle.sbp_world.proofs.Lists.OpenNews.{all_grow}
+use Rattle.sbp_world.proofs.Lists.PlaceOwners.{Owns, walk_owns}
 use Rattle.sbp_world.proofs.Lists.TameWalks.{turn_still}
 use Rattle.sbp_world.proofs.Lists.TurnWalk.{begun_seated, seated_of}
 use Rattle.sbp_world.proofs.Lists.Walks.{Step, Turn, Walks, by_delivery, by_end, by_line, by_start}
@@ -70,7 +66,7 @@ aside_falls before now w v a target initiators store generation same =
     let nodes = nodes_aside before now w v a target in
     let quads = ap quadlets_left initiators in
     let kept = ap (λ (s : Stored). wire_of s) store in
-    let less = wire_less (terms before) (terms now) v (λ r. subst (λ ms. (terms before).news r ≤ (terms ms).news r) a.goes.is (news_rise r a.goes.later before)) generation in
+    let less = wire_less (terms before) (terms now) v (λ r. subst (λ ms. (terms before).news r ≤ (terms ms).news r) a.goes.is (all_grow r a.goes.later before)) generation in
     record { all = omega (arith, nodes, quads, kept, less, same) }
   where
     wire_of : Stored → ℕ

@@ -1,13 +1,11 @@
 -- With each delivery of a packet in flight what is left falls by one.
-use Rattle.sbp_world.proofs.Words.Std.{arith, ◌≡◌, ◌∙◌, refl, sym, ap, subst, ℕ, zero, suc, ◌+◌, ◌-◌, ◌*◌, ◌<◌, ◌≤◌, ◌==◌, ◌&&◌, not, nat_eq, nat_lt, nat_tests, Bool, true, false, cond, List, [], ◌∷◌, ◌++◌, map, length, Option, Some, None, Ok, slice_index_or, slice_set}
-use Rattle.sbp_world.proofs.Words.Wire.{Finding, Judged, Outgoing, OutboxState, Moment, Node, Packet, Sending, Sent, Topology, GenerationsState, as_sending, empty_outbox, found_sent, is_flying, judged_note, judging_step, of_request, part_of, request, said, terms, topology_at, write_block, writing, Terms}
-use Rattle.sbp_world.proofs.Words.Target.{Disk, TargetScene, Told, Whole, NodeState, demand_of, is_barred, received, received_as, with_layer}
-use Rattle.sbp_world.proofs.Words.Initiator.{InitiatorState, new_state, receive_step}
-use Rattle.sbp_world.proofs.Words.World.{AreOthers, IsCalm, Arrival, MayReceive, MayTell, MayTold, NoneInjected, Scene, WorldState, arrived, at_target, delivered, delivered_by, handed_out, holder, initiator_at, initiator_received, initiators_received, machine_at, marked, target_received, whole_of, with_initiators, with_note, with_target}
+use Rattle.sbp_world.proofs.Words.Std.{arith, ◌≡◌, ◌∙◌, refl, sym, ap, subst, ℕ, zero, suc, ◌+◌, ◌-◌, ◌*◌, ◌<◌, ◌≤◌, ◌==◌, ◌&&◌, nat_tests, Bool, true, false, cond, List, ◌∷◌, length, Option, Some, Ok, slice_index_or, slice_set}
+use Rattle.sbp_world.proofs.Words.Wire.{Finding, Judged, Outgoing, OutboxState, Moment, Node, Packet, Sent, GenerationsState, as_sending, empty_outbox, found_sent, is_flying, judged_note, judging_step, of_request, said, terms, topology_at, write_block, Terms}
+use Rattle.sbp_world.proofs.Words.Target.{Disk, TargetScene, Told, Whole, demand_of, is_barred, received, received_as, with_layer}
+use Rattle.sbp_world.proofs.Words.Initiator.{new_state, receive_step}
+use Rattle.sbp_world.proofs.Words.World.{AreOthers, IsCalm, Arrival, MayReceive, MayTell, NoneInjected, Scene, WorldState, arrived, at_target, delivered, delivered_by, handed_out, initiator_at, initiator_received, initiators_received, machine_at, marked, target_received, whole_of, with_initiators, with_note, with_target}
 use Rattle.command_agent.specs.Machine as machines
 use Rattle.bus_transactions.proofs.PacketParts.{part_read}
-use Rattle.label_table.specs.Requests.{reply_kind}
-use Rattle.sbp_initiator.specs.Handing as own
 use Rattle.sbp_initiator.proofs.Handing.{delivery_law}
 use Rattle.sbp_journal.specs.declared.cause.Judged.TheVariants as judgements
 use Rattle.sbp_journal.specs.declared.note.Note.TheVariants as notes
@@ -15,29 +13,29 @@ use Rattle.sbp_laws.specs.Completion.{arrivals}
 use Rattle.target_base.specs.declared.address.Demand.TheVariants as demands
 use Rattle.sbp_target.specs.Serving.{request_step}
 use Rattle.sbp_target.proofs.Histories.Found.{IsFound, found as found_as}
-use Rattle.sbp_target.specs.RequestsLeft.{DeliveriesAreCounted, found_due}
+use Rattle.sbp_target.specs.RequestsLeft.{DeliveriesAreCounted}
 use Rattle.sbp_target.specs.Requests.{requests}
 use Rattle.sbp_world.specs.Counting.Left.{left, quadlets_left, requests_left}
 use Rattle.sbp_world.specs.Counting.Wire.{due_of, is_unjudged, wire}
 use Rattle.sbp_world.specs.Lists.OwnLogins.{IsTame}
 use Rattle.sbp_world.proofs.Agents.Management.Hearing.{request_current}
-use Rattle.sbp_world.proofs.Agents.Management.Holding.{Holding, good_of, ours as own_packets, past_terms, target_generation, was_sent}
+use Rattle.sbp_world.proofs.Agents.Management.Holding.{Holding, ours as own_packets, past_terms, target_generation, was_sent}
 use Rattle.sbp_world.proofs.Agents.Management.Still.{hist}
 use Rattle.sbp_world.proofs.Counting.Arrived.{arrived as arrived_one}
 use Rattle.sbp_world.proofs.Counting.Asides.{nodes_aside, requests_same, set_quadlets, wire_less}
 use Rattle.sbp_world.proofs.Counting.Bounded.{Falls}
-use Rattle.sbp_world.proofs.Counting.Others.{IsAside, delivered_goes, stays_aside}
+use Rattle.sbp_world.proofs.Counting.Others.{delivered_goes, stays_aside}
 use Rattle.sbp_world.proofs.Counting.Places.{IsPlace}
-use Rattle.sbp_world.proofs.Counting.News.{news_rise}
 use Rattle.sbp_world.proofs.Counting.TargetFalls.{IsBefore, behind, first_on, nodes_fall}
-use Rattle.sbp_world.proofs.Counting.Turns.{call_goes}
 use Rattle.sbp_world.proofs.Counting.Grown.{Goes}
-use Rattle.sbp_world.proofs.Counting.Unjudged.{due_most, manage_free, not_judged}
+use Rattle.sbp_world.proofs.Counting.Unjudged.{due_most, manage_free}
 use Rattle.sbp_world.proofs.Counting.WireRuns.{wire_falls}
 use Rattle.sbp_world.proofs.Hosts.Hands.{hand_law}
 use Rattle.sbp_world.proofs.Lists.Calm.{calm_before}
 use Rattle.sbp_world.proofs.Lists.Lines.{hears}
+use Rattle.sbp_world.proofs.Lists.ManageKnown.{not_judged}
 use Rattle.sbp_world.proofs.Lists.ManageWire.{WireMoments, wire_moments}
+use Rattle.sbp_world.proofs.Lists.OpenNews.{all_grow}
 use Rattle.sbp_world.proofs.Lists.OpenWorlds.{GoesOn}
 use Rattle.sbp_world.proofs.Agents.Peers.{AreNoLoops, found_leaves}
 use Rattle.sbp_world.specs.Wire.Knows.{IsOurs}
@@ -47,7 +45,7 @@ use Rattle.sbp_world.proofs.Lists.PlaceOwners.{IsSeatedWell, Owns}
 use Rattle.sbp_world.proofs.Lists.PlacedOps.{manage_write}
 use Rattle.sbp_world.proofs.Lists.StatusKnown.{each_from}
 use Rattle.sbp_world.proofs.Wire.Bus.{holds}
-use Rattle.sbp_world.proofs.Wire.Comes.{own_inside, own_outside, received_is, to_own, to_zero}
+use Rattle.sbp_world.proofs.Wire.Comes.{own_inside, received_is, to_own, to_zero}
 use Rattle.sbp_world.proofs.Wire.Nodes.{handed_alike, marked_alike}
 use Rattle.sbp_world.proofs.Wire.ToldBytes.{told_fits}
 
@@ -95,7 +93,7 @@ module _ (counted : DeliveriesAreCounted) (units ready : ℕ) (start : List Disk
   -- ---- what is left, by what the wire and the nodes leave
   falls_by : (packets : List Outgoing) (due : ℕ) → Goes before now → u.generation 0 ≡ t.generation 0 → wire (is_unjudged t) v + (1 + 2 * due) ≤ wire (is_unjudged t) w + 2 * requests packets → requests packets + requests_left now v ≤ requests_left before w + due → arrivals now ≤ suc (arrivals before) → Falls before (left before w) now (left now v)
   falls_by packets due goes same wires nodes one =
-      let less = wire_less t u v (λ r. subst (λ ms. t.news r ≤ (terms ms).news r) goes.is (news_rise r goes.later before)) same in
+      let less = wire_less t u v (λ r. subst (λ ms. t.news r ≤ (terms ms).news r) goes.is (all_grow r goes.later before)) same in
       record { all = omega (arith, less, wires, nodes, one) }
 
   -- ---- at the target
@@ -148,7 +146,7 @@ module _ (counted : DeliveriesAreCounted) (units ready : ℕ) (start : List Disk
         let here = each_from _ on.more (said (notes.Got serial) ∷ before) (subst WireMoments (sym on.is) moments) in
         let calm = calm_before on.more (said (notes.Got serial) ∷ before) sender (subst (λ ms. IsCalm ms sender) (sym on.is) (tame sender)) in
         let honest = h.none sender inside (h.tame sender) serial (as_sending sent) was from_is in
-        let none = not_judged serial before (as_sending sent) here was honest (ap (terms (said (notes.Got serial) ∷ before)).injects from_is ∙ calm) m.header.label (part_read sent.bytes (write_block m.header m.offset m.payload) (read ∙ ap Ok m.is)) in
+        let none = not_judged serial before (as_sending sent) here.0.later was honest (ap (terms (said (notes.Got serial) ∷ before)).injects from_is ∙ calm) m.header.label (part_read sent.bytes (write_block m.header m.offset m.payload) (read ∙ ap Ok m.is)) in
         join (t.news serial == 0) (sent.generation == t.generation 0) (grind (arith, nat_tests, none)) (grind (arith, nat_tests, current))
       where
         sender : ℕ

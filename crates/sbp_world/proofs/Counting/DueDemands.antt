@@ -1,14 +1,13 @@
 -- What a request asks of the target brings no more requests of the target than are due for it by its bytes.
-use Rattle.sbp_world.proofs.Words.Std.{arith, ◌≡◌, ◌∙◌, refl, sym, ap, subst, ℕ, ◌+◌, ◌-◌, ◌≤◌, ◌==◌, ◌&&◌, not, nat_eq, nat_tests, Bool, true, false, cond, List, length, Option, Some, None}
+use Rattle.sbp_world.proofs.Words.Std.{arith, ◌≡◌, ◌∙◌, refl, ap, ℕ, ◌-◌, ◌≤◌, ◌==◌, ◌&&◌, not, nat_tests, Bool, true, false, cond, List, Some}
 use Rattle.sbp_world.proofs.Words.Wire.{Packet, Access, Register, Start, access_of, agent_reset, agent_state, begins_in_rom, doorbell, is_start, lies_in_rom, management_agent, no_start, orb_pointer, register, rom_base, rom_start, start_at, start_serves, unsolicited_enable}
 use Rattle.sbp_journal.specs.Addresses.{writes_pointer, writes_quadlet}
 use Rattle.sbp_world.proofs.Words.Target.{Demand, demand_of, or_nowhere, asked_at, asked_of}
 use Rattle.sbp_world.proofs.Words.Initiator.{offset_at, pointer_at}
-use Rattle.sbp_world.proofs.Words.Laws.{access_in, access_in_bytes, spelled_by}
+use Rattle.sbp_world.proofs.Words.Laws.{access_in_bytes}
 use Rattle.target_base.specs.declared.address.Access.TheVariants as accesses
 use Rattle.target_base.specs.declared.address.Demand.TheVariants as demands
 use Rattle.sbp_target.proofs.Histories.Asked.{Rows, demand_is, serves_is}
-use Rattle.sbp_target.proofs.Histories.Found.{IsFound, found as found_as}
 use Rattle.sbp_target.specs.RequestsLeft.{access_due, demand_due}
 use Rattle.sbp_world.specs.Counting.Wire.{due_at, due_by, due_of}
 use Rattle.sbp_world.proofs.Agents.Demands.{none_some}

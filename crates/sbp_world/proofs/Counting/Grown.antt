@@ -7,9 +7,10 @@ use Rattle.sbp_world.proofs.Words.World.{AreOthers, IsOther, WorldState, asked, 
 use Rattle.sbp_journal.specs.declared.note.Note.TheVariants as notes
 use Rattle.sbp_journal.specs.declared.side.Side.TheVariants as sides
 use Rattle.sbp_world.proofs.Agents.Management.Still.{hist}
-use Rattle.sbp_world.proofs.Common.{moments_joined}
+use Rattle.sbp_world.proofs.Common.{moments_joined, not_true}
 use Rattle.sbp_world.proofs.Counting.Folds.{Numbers}
-use Rattle.sbp_world.proofs.Counting.Worked.{not_both, same_or}
+use Rattle.sbp_world.proofs.Counting.Worked.{not_both}
+use Rattle.sbp_world.proofs.Lists.BegunLists.{order_from}
 use Rattle.sbp_world.proofs.Lists.BusyFollows.{AreOf, has_end}
 use Rattle.sbp_world.proofs.Lists.BusyNotes.{one_holder}
 use Rattle.sbp_world.proofs.Lists.Extends.{all_told}
@@ -46,7 +47,7 @@ module _ (before now : List Moment) (g : Goes before now) where
   cut_still i n e = subst (λ ms. is_cut ms i n ≡ true) g.is (cut_stays g.later before i n e)
 
   pub uncut_then : (i n : ℕ) → is_cut now i n ≡ false → is_cut before i n ≡ false
-  uncut_then i n e = same_or (is_cut before i n) (λ f. not_both (is_cut now i n) e (cut_still i n f))
+  uncut_then i n e = not_true (is_cut before i n) (λ f. not_both (is_cut now i n) e (cut_still i n f))
 
   pub ends_more : (i n : ℕ) → ends before i n ≤ ends now i n
   ends_more i n = subst (λ ms. ends before i n ≤ ends ms i n) g.is (ends_grow i n g.later before)
@@ -127,10 +128,6 @@ pub record HasEnded (before now : List Moment) (i : ℕ) : Type 0 where
   pub more : ends before i n < ends now i n
 
 module _ (wild : ℕ → Bool) (past before now : List Moment) (law : OrderLaw wild now) (i : ℕ) (own : wild i ≡ false) (q : ℕ) where
-  law_from : (later ms : List Moment) → OrderLaw wild (later ++ ms) → OrderLaw wild ms
-  law_from [] ms l = l
-  law_from (m ∷ later) ms l = law_from later ms l.1
-
   noted : (ms : List Moment) → Goes before ms → (x y : Option ℕ) (status : StatusKind) (later : List Moment) → later ++ said (notes.Ended i x y status) ∷ ms ≡ now → OrderLaw wild (said (notes.Ended i x y status) ∷ ms) → HasEnded before now i
   noted ms g None y status later is l = absurd (false≢true (sym own ∙ l.0))
   noted ms g (Some n) None status later is l = absurd (false≢true (sym own ∙ l.0))
@@ -157,7 +154,7 @@ module _ (wild : ℕ → Bool) (past before now : List Moment) (law : OrderLaw w
       by : (j : ℕ) → j ≡ i → (x y : Option ℕ) → later ++ said (notes.Ended j x y status) ∷ hist past w ≡ now → HasEnded before now i
       by j e x y f =
           let h = subst (λ a. later ++ said (notes.Ended a x y status) ∷ hist past w ≡ now) e f in
-          noted (hist past w) g x y status later h (law_from later (said (notes.Ended i x y status) ∷ hist past w) (subst (OrderLaw wild) (sym h) law))
+          noted (hist past w) g x y status later h (order_from wild later (said (notes.Ended i x y status) ∷ hist past w) (subst (OrderLaw wild) (sym h) law))
 
   pub told_ended : (side : List Side) (w : WorldState) → AreOf q side → AreOthers side → has_end side ≡ true → (holder w q).initiator ≡ i → Goes before (hist past w) → (later : List Moment) → later ++ hist past (told_all 0 side w) ≡ now → HasEnded before now i
   unfolding told_all

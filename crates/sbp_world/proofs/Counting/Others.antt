@@ -1,28 +1,26 @@
 -- What leaves the agents of the target, and who has their places, and appends nothing, leaves the rooms as they are at most: a line that begins, a delivery to an
 -- initiator, a key. In no delivery an ORB is appended.
-use Rattle.sbp_world.proofs.Words.Std.{arith, ◌≡◌, ◌∙◌, refl, sym, ap, subst, ◌<◌, ◌≤◌, ◌==◌, ◌||◌, not, ℕ, zero, suc, nat_eq, nat_lt, Bool, true, false, cond, List, [], ◌∷◌, length, Option, Some, None, nat_tests, slice_index_or, slice_set, false≢true}
+use Rattle.sbp_world.proofs.Words.Std.{arith, ◌≡◌, ◌∙◌, refl, sym, ap, subst, ◌<◌, ◌≤◌, ◌||◌, not, ℕ, zero, suc, nat_lt, Bool, true, false, cond, List, [], ◌∷◌, length, Option, Some, None, slice_index_or, slice_set, false≢true}
 use Rattle.sbp_world.proofs.Words.Wire.{Event, Moment, Note, OutboxState, Sent, Side, asks, deliver_step, empty_outbox, found_sent, holder_at, is_flying, judged_note, said}
-use Rattle.sbp_world.proofs.Words.Target.{Machine, NodeState, Told, desk_at, with_key}
+use Rattle.sbp_world.proofs.Words.Target.{Machine, NodeState, Told, desk_at}
 use Rattle.sbp_world.proofs.Words.Initiator.{new_state, receive_step}
 use Rattle.sbp_world.proofs.Words.Laws.{ends, is_cut}
-use Rattle.sbp_world.proofs.Words.World.{AreOthers, Arrival, MayAt, MayNext, MayReceive, MayTold, Scene, WorldState, arrived, at_target, delivered, delivered_at, delivered_by, delivered_next, handed_out, holder, initiator_in, initiator_received, initiators_received, lowest, machine_at, marked, received_by, received_step, target_received, told, told_all, with_initiators, with_note, with_target}
+use Rattle.sbp_world.proofs.Words.World.{AreOthers, Arrival, MayAt, MayReceive, MayTold, Scene, WorldState, arrived, at_target, delivered, delivered_by, handed_out, initiator_received, initiators_received, machine_at, marked, received_by, received_step, target_received, told, told_all, with_initiators, with_note, with_target}
 use Rattle.command_agent.specs.Making.{is_at_work}
 use Rattle.sbp_journal.specs.declared.note.Note.TheVariants as notes
 use Rattle.sbp_journal.specs.declared.side.Side.TheVariants as sides
-use Rattle.sbp_world.specs.Settling as settling
 use Rattle.sbp_world.proofs.Agents.Management.Still.{hist}
 use Rattle.sbp_world.proofs.Common.{itself}
 use Rattle.sbp_world.proofs.Counting.Grown.{Goes, IsNoAppend, first_goes, goes_none, goes_then, one_moment, sent_goes, told_goes}
-use Rattle.sbp_world.proofs.Counting.Turns.{IsGround, begun_stays, call_goes, rooms_fall, rooms_least}
+use Rattle.sbp_world.proofs.Counting.RoomTurns.{rooms_least}
 use Rattle.sbp_world.proofs.Counting.Worked.{Begun, WorksOn, has_ended, was_cut, works}
 use Rattle.sbp_world.proofs.Hosts.Hands.{hand_law}
 use Rattle.sbp_world.proofs.Hosts.OrbTells as tell
-use Rattle.sbp_world.proofs.Hosts.OrbTerms.{AreStill, IsStill, is_left}
+use Rattle.sbp_world.proofs.Hosts.OrbTerms.{AreStill, is_left}
 use Rattle.sbp_world.proofs.Lists.Adds.{Stays}
 use Rattle.sbp_world.proofs.Lists.Deliveries.{first_of}
-use Rattle.sbp_world.proofs.Lists.TurnCalls.{TurnCalls, calls, keyed, leaves}
 use Rattle.sbp_world.proofs.Wire.Comes.{own_inside, own_outside, received_is, to_own, to_zero}
-use Rattle.sbp_world.specs.Counting.Rooms.{is_at_work_in, rooms}
+use Rattle.sbp_world.specs.Counting.Rooms.{rooms}
 
 -- ---- the agents and their places stay
 pub record IsAside (before now : List Moment) (w v : WorldState) : Type 0 where

@@ -1,16 +1,14 @@
 -- What is known of the lists at each place of a run in which nobody injected packets, as the rooms need it: so it is ground for each turn from one place to the next.
-use Rattle.sbp_world.proofs.Words.Std.{◌≡◌, refl, subst, inl, ◌<◌, ◌≤◌, ℕ, List, [], ◌∷◌, ◌++◌, length, map}
+use Rattle.sbp_world.proofs.Words.Std.{refl, subst, inl, ◌<◌, List, [], ◌∷◌, ◌++◌, map}
 use Rattle.sbp_world.proofs.Words.Wire.{Moment, asked, said}
 use Rattle.sbp_world.proofs.Words.Laws.{OrderLaw, injectors}
-use Rattle.sbp_world.proofs.Words.World.{Always, AreAlong, AreApart, IsRun, OpenLists, Run, WorldState, after, after_all, beginning, begun, history_of, more_deliveries}
-use Rattle.sbp_world.proofs.Counting.Turns.{IsGround}
-use Rattle.sbp_world.proofs.Counting.Worked.{AreWithin, are_working}
+use Rattle.sbp_world.proofs.Words.World.{Always, AreAlong, AreApart, OpenLists, WorldState, after, after_all, beginning, begun, history_of, more_deliveries}
+use Rattle.sbp_world.proofs.Counting.Worked.{AreWithin}
 use Rattle.sbp_world.proofs.Hosts.Lasting.{lasting_law}
 use Rattle.sbp_world.proofs.Hosts.Runs.{count_after, count_between}
-use Rattle.sbp_world.proofs.Lists.Clauses.{lists_law, one_up, open_lists_law}
+use Rattle.sbp_world.proofs.Lists.Clauses.{one_up, open_lists_law}
 use Rattle.sbp_world.proofs.Lists.Courses.{more_than_one}
 use Rattle.sbp_world.proofs.Lists.ListsProved.{closing}
-use Rattle.sbp_world.proofs.Lists.PlaceOwners.{Owns}
 use Rattle.sbp_world.proofs.Lists.RunLaws.{along_law, order_run_law}
 use Rattle.sbp_world.proofs.Lists.ShortLines.{short_law}
 use Rattle.sbp_world.proofs.Lists.UpLatest.{AreUpLatest, up_latest_law}

@@ -1,5 +1,5 @@
 -- Where deliveries are bounded a `settle` settles: it stops as it has made as many deliveries as its budget has, and then nothing is in flight.
-use Rattle.sbp_world.proofs.Words.Std.{arith, ◌≡◌, ◌∙◌, refl, sym, ap, subst, ℕ, zero, suc, ◌+◌, ◌<◌, ◌≤◌, min, Bool, true, false, cond, List, [], ◌∷◌, ◌++◌, map, reverse, reverse-append, nat_eq, nat_tests, Option, Some, None}
+use Rattle.sbp_world.proofs.Words.Std.{arith, ◌≡◌, ◌∙◌, refl, sym, ap, subst, ℕ, zero, suc, ◌+◌, ◌<◌, ◌≤◌, Bool, true, false, cond, List, [], ◌∷◌, ◌++◌, map, reverse, reverse-append, nat_eq, nat_tests, Some, None}
 use Rattle.std.proofs.lemmas.List.{reverse-reverse}
 use Rattle.sbp_world.proofs.Words.Wire.{Event, Note, Moment, asked, said, terms}
 use Rattle.rbc_disk.specs.Disk.{Disk}
@@ -7,17 +7,13 @@ use Rattle.sbp_journal.specs.Run.{Entry, history}
 use Rattle.sbp_journal.specs.Wire.{Flight}
 use Rattle.sbp_journal.specs.declared.event.Event.TheVariants as events
 use Rattle.sbp_journal.specs.declared.note.Note.TheVariants as notes
-use Rattle.sbp_laws.specs.Budget.{Lossless, budget, count_flying, flies, initiators, lowest_flying, most_deliveries, settle_deliveries, shares}
+use Rattle.sbp_laws.specs.Budget.{Lossless, budget, count_flying, flies, lowest_flying, most_deliveries, settle_deliveries}
 use Rattle.sbp_laws.specs.Completion.{AllDeliver, BoundedDeliveries, EndsSettled, SettleSettles, SettlesAt, arrivals, in_the_air}
-use Rattle.sbp_laws.specs.Deliveries.{AreDeliveries, EndsSettle, NoneFlies, SettlesWithin, Settles, deliveries, once_told}
+use Rattle.sbp_laws.specs.Deliveries.{EndsSettle, NoneFlies, Settles, deliveries, once_told}
 use Rattle.sbp_laws.specs.LineLaw.{BringsLine, LineLaw}
+use Rattle.sbp_world.proofs.Wire.Lowest.{counts_append}
 
 -- ---- how many of some notes are deliveries
-joined : (a b : List Note) → deliveries (a ++ b) ≡ deliveries a + deliveries b
-joined [] b = omega arith
-joined (notes.Got serial ∷ a) b = let rest = joined a b in omega (arith, rest)
-joined (notes.Ignored serial cause ∷ a) b = let rest = joined a b in omega (arith, rest)
-joined (note ∷ a) b = joined a b
 
 turned : (told : List Note) → arrivals (map said (reverse told)) ≡ deliveries told
 turned told = by (reverse told) ∙ back told
@@ -31,9 +27,9 @@ turned told = by (reverse told) ∙ back told
     back : (ns : List Note) → deliveries (reverse ns) ≡ deliveries ns
     back [] = refl
     back (note ∷ ns) =
-        let parts = joined (reverse ns) (note ∷ []) in
+        let parts = counts_append (reverse ns) (note ∷ []) in
         let rest = back ns in
-        let here = joined (note ∷ []) ns in
+        let here = counts_append (note ∷ []) ns in
         let is = ap deliveries (reverse-append (note ∷ []) ns) in
         omega (arith, parts, rest, here, is)
 

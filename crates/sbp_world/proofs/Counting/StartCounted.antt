@@ -1,5 +1,5 @@
 -- At each place of a run there are as many initiators as its first line says, and a status is taken for these alone.
-use Rattle.sbp_world.proofs.Words.Std.{arith, ◌≡◌, ◌∙◌, refl, sym, subst, ℕ, ◌<◌, ◌≤◌, nat_eq, Bool, true, false, cond, List, [], ◌∷◌, ◌++◌, map, length, Option, Some, None, nat_tests, reverse}
+use Rattle.sbp_world.proofs.Words.Std.{arith, ◌≡◌, ◌∙◌, refl, sym, subst, ℕ, ◌≤◌, nat_eq, Bool, true, false, cond, List, [], ◌∷◌, ◌++◌, map, length, Option, Some, None, reverse}
 use Rattle.sbp_world.proofs.Words.Wire.{Event, Moment, Note, asked, history, said}
 use Rattle.sbp_world.proofs.Words.Target.{Disk, Told}
 use Rattle.sbp_world.proofs.Words.Laws.{BringsLine, LineLaw, initiators, taken_at}
@@ -8,7 +8,7 @@ use Rattle.sbp_journal.specs.declared.event.Event.TheVariants as events
 use Rattle.sbp_journal.specs.declared.note.Note.TheVariants as notes
 use Rattle.sbp_world.specs.Settling as settling
 use Rattle.sbp_world.specs.Wire.Journal.{journal_entries}
-use Rattle.sbp_world.proofs.Common.{untrue}
+use Rattle.sbp_world.proofs.Common.{untrue, above}
 use Rattle.sbp_world.proofs.FitInitiator.Law.{fitting_law as own_fitting_law}
 use Rattle.sbp_world.proofs.FitTarget.Law.{fitting_law}
 use Rattle.sbp_world.proofs.Hosts.Carried.{between_runs}
@@ -23,7 +23,7 @@ use Rattle.sbp_world.proofs.Wire.Runs.{sound_after}
 use Rattle.sbp_world.proofs.Wire.Sound.{opens}
 
 -- ---- no later line begins a run
-none_at : (line : ℕ) (event : Event) (told : List (Option Told)) (s : Scene) (disks : List Disk) (past : List Moment) (ns : List Note) → IsLine event (length s.world.initiators) → ns ≡ (happens line event told s).world.fresh → BringsLine disks past line event (reverse ns) → NoneBegins ns
+pub none_at : (line : ℕ) (event : Event) (told : List (Option Told)) (s : Scene) (disks : List Disk) (past : List Moment) (ns : List Note) → IsLine event (length s.world.initiators) → ns ≡ (happens line event told s).world.fresh → BringsLine disks past line event (reverse ns) → NoneBegins ns
 unfolding happens
 none_at line (events.Act i action) told s disks past ns q e b = subst NoneBegins (sym e) (act_none line i action (begun s).world refl)
 none_at line (events.Begin n ready) told s disks past ns q e b = absurd q
@@ -51,7 +51,7 @@ module _ (line : ℕ) (run : Run) (r : IsRun run) (size : length run.start.disks
     abbrev w : WorldState
     w = (after_all told (begun here)).world
 
-    none_between : NoneBegins w.fresh
+    pub none_between : NoneBegins w.fresh
     none_between =
         let b = sound_after fitting_law own_fitting_law line run run.entries r.few r.short r.entries r.lines in
         let steps = events.Step (length told) in
@@ -68,9 +68,6 @@ module _ (line : ℕ) (run : Run) (r : IsRun run) (size : length run.start.disks
 pick_none : {A : Type 0} (b : Bool) (x y : Option A) → b ≡ false → y ≡ None → cond b x y ≡ None
 pick_none true x y e none = untrue (sym e)
 pick_none false x y e none = none
-
-above : (i j most : ℕ) → j < most → most ≤ i → nat_eq i j ≡ false
-above i j most l m = grind (arith, nat_tests)
 
 inside_none : (most : ℕ) (past : List Moment) → InsideIn most past → (i n k : ℕ) → most ≤ i → taken_at past i n k ≡ None
 inside_none most [] h i n k l = refl

@@ -3,7 +3,6 @@ use Rattle.sbp_world.proofs.Words.Std.{arith, ◌≡◌, ◌∙◌, sym, ◌<◌
 use Rattle.sbp_world.proofs.Words.Wire.{Kept, Moment, Sent, flying, terms}
 use Rattle.sbp_world.proofs.Words.Target.{Operation, desk_at}
 use Rattle.sbp_world.proofs.Words.World.{WorldState}
-use Rattle.orb_layout.specs.Pointers.{bit}
 use Rattle.mgmt_agent.specs.declared.operation.Phase.{Phase}
 use Rattle.mgmt_agent.specs.declared.operation.Phase.TheVariants as phases
 use Rattle.packet_store.specs.Weights.{weight}
@@ -18,6 +17,7 @@ use Rattle.sbp_world.proofs.Counting.Start.{IsStart, rooms_start}
 use Rattle.sbp_world.proofs.Counting.StartManaging.{AreAsking, AreKept, managing_most}
 use Rattle.sbp_world.proofs.Counting.WireWeights.{request_least, weighs_at_most}
 use Rattle.sbp_world.proofs.Words.Laws.{access_in_bytes}
+use Rattle.sbp_world.proofs.Hosts.OrbSpelled.{bit_small}
 
 -- ---- each packet in flight weighs one at least
 pub flown_weigh : (counts : ℕ → Sent → Bool) (kept : List Kept) → length (flying kept) ≤ weight (flight_weight counts) kept
@@ -32,9 +32,6 @@ pub flights_are_left : (now : List Moment) (w : WorldState) → in_the_air now �
 flights_are_left now w flown = let few = flown_weigh (is_unjudged (terms now)) w.store.kept in omega (arith, flown, few)
 
 -- ---- the target and the initiators, but for the ORBs
-bit_most : (b : Bool) → bit b ≤ 1
-bit_most true = omega arith
-bit_most false = omega arith
 
 phase_most : (phase : Phase) → phase_left phase ≤ 4
 phase_most phases.Orb = omega arith
@@ -64,8 +61,8 @@ module _ (now : List Moment) (w : WorldState) where
   place_most : (place : ℕ) → place_left (tables_of now w) (chunks_in now w) w.target place ≤ left_at now w place + 2
   place_most place =
       let desk = desk_at w.target place in
-      let one = bit_most desk.agent.doorbell in
-      let two = bit_most desk.is_enabled in
+      let one = bit_small desk.agent.doorbell in
+      let two = bit_small desk.is_enabled in
       omega (arith, one, two)
 
   node_most : node_left (tables_of now w) (chunks_in now w) w.target ≤ over_places (left_at now w) 8 + 20

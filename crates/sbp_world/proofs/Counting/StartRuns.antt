@@ -5,7 +5,6 @@ use Rattle.sbp_world.proofs.Words.Wire.{Moment, asked, flying, said}
 use Rattle.sbp_world.proofs.Words.Target.{Disk}
 use Rattle.sbp_world.proofs.Words.Laws.{EachMoment, ends, initiators, taken_at}
 use Rattle.sbp_world.proofs.Words.World.{Always, AreUntaken, BasedAt, IsTame, WorldState, after, after_all, beginning, begun, history_of, more_deliveries}
-use Rattle.sbp_laws.specs.Budget.{Lossless, budget}
 use Rattle.sbp_laws.specs.Completion.{in_the_air}
 use Rattle.sbp_world.specs.Counting.Asking.{AsksOnce}
 use Rattle.sbp_world.specs.Counting.Left.{left}
@@ -14,7 +13,7 @@ use Rattle.sbp_world.proofs.FitTarget.Law.{fitting_law}
 use Rattle.sbp_world.proofs.Counting.AskingRuns.{asks_once_law}
 use Rattle.sbp_world.proofs.Counting.Places.{IsPlace, places_law}
 use Rattle.sbp_world.proofs.Counting.StartCounted.{counted_after, counted_between, none_taken_after, none_taken_between}
-use Rattle.sbp_world.proofs.Counting.StartLeft.{AtStart, flights_are_left, left_at_start}
+use Rattle.sbp_world.proofs.Counting.StartLeft.{AtStart, flights_are_left}
 use Rattle.sbp_world.proofs.Counting.StartManaging.{AreKept}
 use Rattle.sbp_world.proofs.Counting.StartPlaces.{are_flown, are_held, are_kept}
 use Rattle.sbp_world.proofs.Counting.Worked.{are_working}

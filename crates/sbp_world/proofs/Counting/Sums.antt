@@ -1,13 +1,13 @@
 -- What the target is yet to send is the same by two counts of its ORBs, where these agree on the places that are at work; and so is what ORBs bring whose turn came.
-use Rattle.sbp_world.proofs.Words.Std.{arith, ◌≡◌, ◌∙◌, refl, sym, ap, subst, ℕ, zero, suc, ◌+◌, ◌<◌, ◌≤◌, ◌&&◌, ◌||◌, not, Bool, true, false, cond}
+use Rattle.sbp_world.proofs.Words.Std.{arith, ◌≡◌, ◌∙◌, refl, ap, ℕ, zero, suc, ◌<◌, Bool, true, false}
 use Rattle.command_agent.specs.Counting.{left_of, mark}
 use Rattle.command_agent.specs.Machine.{Machine}
 use Rattle.command_agent.specs.declared.phase.Phase.{Phase}
 use Rattle.command_agent.specs.declared.phase.Phase.TheVariants as phases
 use Rattle.command_agent.specs.Counting as agents
 use Rattle.command_agent.specs.Making.{is_at_work}
-use Rattle.sbp_target.specs.Nodes.{NodeState, Scene, desk_at}
-use Rattle.sbp_target.specs.RequestsLeft.{begun_share, has_begun, node_left, newly, place_left, sum_below, works}
+use Rattle.sbp_target.specs.Nodes.{NodeState, desk_at}
+use Rattle.sbp_target.specs.RequestsLeft.{node_left, place_left, sum_below, works}
 
 -- ---- sums over places
 pub sum_same : (n : ℕ) (f g : ℕ → ℕ) → ((place : ℕ) → place < n → f place ≡ g place) → sum_below n f ≡ sum_below n g

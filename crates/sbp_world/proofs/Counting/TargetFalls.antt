@@ -1,7 +1,7 @@
 -- With a delivery to the target what is left falls by one.
-use Rattle.sbp_world.proofs.Words.Std.{arith, ◌≡◌, ◌∙◌, refl, sym, ap, subst, ℕ, zero, suc, ◌+◌, ◌*◌, ◌<◌, ◌≤◌, ◌||◌, not, Bool, true, false, cond, List, [], ◌∷◌, ◌++◌, length, Option, Some, None}
-use Rattle.sbp_world.proofs.Words.Wire.{Judged, LabelParts, Moment, Packet, Sent, Side, empty_outbox, found_sent, header_in, judged_note, judging_step, of_response, said}
-use Rattle.sbp_world.proofs.Words.Target.{Disk, Told, Whole, Login, NodeState, TargetScene, alone, answer_in, received, served_login, which_in, desk_at, is_reset, state_in, place_at, login_at}
+use Rattle.sbp_world.proofs.Words.Std.{arith, ◌≡◌, ◌∙◌, refl, sym, ap, subst, ℕ, suc, ◌+◌, ◌<◌, ◌≤◌, ◌||◌, not, Bool, true, false, cond, List, ◌∷◌, ◌++◌, length, Option, Some, None}
+use Rattle.sbp_world.proofs.Words.Wire.{Judged, Moment, Sent, found_sent, header_in, judged_note, judging_step, said}
+use Rattle.sbp_world.proofs.Words.Target.{Told, Whole, Login, TargetScene, alone, answer_in, received, served_login, login_at}
 use Rattle.sbp_world.proofs.Words.Laws.{command_at, ends, lists}
 use Rattle.sbp_world.proofs.Words.World.{AreOthers, MayTell, Scene, WorldState, handed_out, has_list, holder, initiator_in, is_open_at, IsCalm, machine_at, marked, whole_of, with_note, with_target}
 use Rattle.command_agent.specs.Machine as machines
@@ -9,7 +9,6 @@ use Rattle.command_agent.specs.declared.step.Which.TheVariants.{Main}
 use Rattle.command_agent.specs.Making.{Brings}
 use Rattle.sbp_target.specs.RequestsLeft.{BringsIn, DeliveriesAreCounted, found_due, node_left, works}
 use Rattle.sbp_target.specs.Requests.{requests}
-use Rattle.sbp_target.specs.declared.purpose.Purpose.TheVariants as purposes
 use Rattle.target_base.specs.Logins.{if_served}
 use Rattle.sbp_world.specs.Counting.Brings.{AreFew}
 use Rattle.sbp_world.specs.Counting.Rooms.{chunks_in, chunks_of, elements_of, of_list, present_command, rooms, tables_of}
@@ -20,7 +19,10 @@ use Rattle.sbp_world.proofs.Wire.Nodes.{handed_alike}
 use Rattle.sbp_world.proofs.Counting.Places.{IsPlace}
 use Rattle.sbp_world.proofs.Counting.Worked.{AreWorking, are_working}
 use Rattle.sbp_world.proofs.Counting.TargetSums.{chunks, command_in, fresh_is, is_up, tables, together, worked_is}
-use Rattle.sbp_world.proofs.Counting.Turns.{IsGround, call_goes, present_comes, present_stays, rooms_fall, turn_up}
+use Rattle.sbp_world.proofs.Counting.NewTurns.{turn_up}
+use Rattle.sbp_world.proofs.Counting.PresentTurns.{present_comes, present_stays}
+use Rattle.sbp_world.proofs.Counting.RoomTurns.{rooms_fall}
+use Rattle.sbp_world.proofs.Counting.Turns.{IsGround, call_goes}
 use Rattle.sbp_world.proofs.Lists.BusyDeliveries.{waits_has}
 use Rattle.sbp_world.proofs.Lists.Full.{IsFull, full_closed}
 use Rattle.sbp_world.proofs.Lists.Extends.{handed_extends}
@@ -28,12 +30,9 @@ use Rattle.sbp_world.proofs.Lists.OpenWorlds.{GoesOn, hist_on}
 use Rattle.sbp_world.proofs.Lists.PlaceOwners.{IsSeatedWell, Owns}
 use Rattle.sbp_world.proofs.Lists.TurnCalls.{IsCalled}
 use Rattle.sbp_world.proofs.Lists.TurnWalk.{delivery_is_called}
+use Rattle.login_table.proofs.Searching.{within}
 
 -- ---- a login that is served has a place
-within : (places : List (Option Login)) (k : ℕ) (found : Login) → place_at places k ≡ Some found → k < length places
-within [] k found e = absurd (let no : None ≡ Some found = e in cc)
-within (y ∷ places) zero found e = omega arith
-within (y ∷ places) (suc k) found e = let rest = within places k found e in omega (arith, rest)
 
 served_is : (units : ℕ) (at : Option Login) (login : Login) → if_served units at ≡ Some login → (k : Login) × (at ≡ Some k)
 served_is units None login e = absurd (let no : None ≡ Some login = e in cc)

@@ -1,32 +1,24 @@
 -- What each call of the target keeps is so behind each turn.
-use Rattle.sbp_world.proofs.Words.Std.{arith, ◌≡◌, ◌∙◌, ◌⊎◌, inl, inr, refl, sym, ap, subst, ◌<◌, ◌≤◌, not, ◌||◌, ℕ, zero, suc, nat_eq, nat_lt, Bool, true, false, cond, List, [], ◌∷◌, length, Option, Some, None, Result, Ok, Err, slice_index_or, slice_set, nat_tests}
-use Rattle.sbp_world.proofs.Words.Wire.{judging_step, Stale, Layer, expiring_step, Sent, found_sent, is_flying, deliver_step, Holder, Request, id_of, end_note, judged_note, no_packet, holder_at, or_nobody, find, list_in, Judged, Event, OutboxState, empty_outbox, Moment}
-use Rattle.sbp_world.proofs.Words.Target.{point_step, Disk, Told, alone, sees, ticks, Purpose, NodeState, TargetScene, scene, expired, expired_in, received, with_key, Whole, orb_of}
+use Rattle.sbp_world.proofs.Words.Std.{arith, ◌≡◌, ◌∙◌, refl, sym, ap, subst, ◌<◌, ◌≤◌, ℕ, zero, suc, nat_eq, nat_lt, Bool, true, false, cond, List, [], ◌∷◌, length, Option, Some, None, Result, Ok, Err, slice_index_or, slice_set}
+use Rattle.sbp_world.proofs.Words.Wire.{judging_step, Stale, Layer, expiring_step, Sent, found_sent, Request, id_of, end_note, judged_note, no_packet, find, Event, OutboxState, empty_outbox, Moment}
+use Rattle.sbp_world.proofs.Words.Target.{Disk, Told, alone, sees, ticks, Purpose, NodeState, TargetScene, scene, expired, expired_in, with_key}
 use Rattle.sbp_world.proofs.Words.Initiator.{new_state, receive_step}
-use Rattle.sbp_world.proofs.Words.World.{Arrival, arrived, at_target, delivered, delivered_by, initiator_received, initiators_received, marked, received_by, received_step, target_received, whole_of, with_initiators, handed_out, MayHappen, acted, happens, keyed, no_unit, reset_line, see_line, target_sees, target_ticks, tick_line, told_seen, with_seen, MayIf, delivered_if, expires, initiator_expires, inject_line, is_in_flight, lose_line, may_repeat, refused, target_expired, target_left, timed_out, timeout_line, timeout_of, MayNext, delivered_at, delivered_next, lowest, holder, ticket_at, told_all, IsLine, Scene, WorldState, begun, with_note, with_target, without_notes, AreHeldAt}
+use Rattle.sbp_world.proofs.Words.World.{Arrival, arrived, at_target, delivered, delivered_by, initiator_received, initiators_received, marked, received_by, received_step, target_received, with_initiators, handed_out, MayHappen, acted, happens, keyed, no_unit, reset_line, see_line, target_sees, target_ticks, tick_line, told_seen, with_seen, MayIf, delivered_if, expires, initiator_expires, inject_line, is_in_flight, lose_line, may_repeat, refused, target_expired, target_left, timed_out, timeout_line, timeout_of, MayNext, delivered_at, delivered_next, lowest, IsLine, Scene, WorldState, begun, with_note, with_target, without_notes}
 use Rattle.sbp_world.proofs.Lists.Walks.{Turn, by_delivery as turn_delivery, by_end as turn_end, by_line as turn_line, by_start as turn_start}
 use Rattle.sbp_journal.specs.declared.event.Event.TheVariants as events
 use Rattle.sbp_journal.specs.declared.note.Note.TheVariants as notes
 use Rattle.sbp_world.specs.Nodes as nodes
 use Rattle.sbp_world.specs.Packets as packets
 use Rattle.sbp_world.specs.Settling as settling
-use Rattle.sbp_target.proofs.Histories.Calling.{Good}
 use Rattle.sbp_world.proofs.Wire.Comes.{own_inside, own_outside, received_is, to_own, to_zero}
 use Rattle.sbp_world.proofs.Wire.Nodes.{handed_alike, marked_alike}
 use Rattle.sbp_world.specs.Delivering.{MayAt, MayReceive, MayTell, MayTold, faults_after}
-use Rattle.sbp_world.proofs.Agents.Peers.{all_sent_places}
-use Rattle.sbp_world.proofs.Agents.Management.Holding.{Holding, good_of}
 use Rattle.sbp_world.proofs.Agents.Management.Still.{hist}
 use Rattle.sbp_world.proofs.Lists.Adds.{Stays}
-use Rattle.sbp_world.proofs.Lists.Courses.{Goes, by_delivery, by_end, by_line, by_start}
 use Rattle.sbp_world.proofs.Lists.Lines.{hears, own_lapses, own_sight}
-use Rattle.sbp_world.proofs.Lists.OpenCuts.{Here, Listing, Open}
-use Rattle.sbp_world.proofs.Lists.OpenDeliveries.{Points, delivery_open, lapse_open}
-use Rattle.sbp_world.proofs.Lists.OpenManages as manages
-use Rattle.sbp_world.proofs.Lists.OpenTurns.{AreSeated, Before, begins, sound}
-use Rattle.sbp_world.proofs.Lists.OpenedOthers.{OthersDo, acts_does, injects_does, loses_does, refused_does, resets_does}
+use Rattle.sbp_world.proofs.Lists.OpenedOthers.{acts_does, injects_does, loses_does, resets_does}
 use Rattle.sbp_world.proofs.Lists.Turned.{IsOne}
-use Rattle.sbp_target.specs.Calls.{Call, lets_expire, receives}
+use Rattle.sbp_target.specs.Calls.{Call, lets_expire}
 use Rattle.sbp_target.specs.Receiving.{TellsIn, with_layer}
 use Rattle.sbp_target.specs.RequestsLeft.{bare, delivered as reached}
 use Rattle.sbp_target.specs.SoundAgents.{IsNoDelivery}

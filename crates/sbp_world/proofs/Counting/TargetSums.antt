@@ -1,5 +1,5 @@
 -- A delivery to the target: what it is yet to send, by the ORBs that are worked before it and by those that are worked behind it, and the ORBs whose turn came.
-use Rattle.sbp_world.proofs.Words.Std.{arith, ◌≡◌, ◌∙◌, refl, sym, ap, subst, ℕ, zero, suc, ◌+◌, ◌<◌, ◌≤◌, ◌&&◌, ◌||◌, not, Bool, true, false, cond, List, [], ◌∷◌, list_any, Option}
+use Rattle.sbp_world.proofs.Words.Std.{arith, ◌≡◌, ◌∙◌, refl, sym, ap, ℕ, zero, suc, ◌+◌, ◌<◌, ◌≤◌, ◌&&◌, ◌||◌, not, Bool, true, false, cond, List, [], ◌∷◌, list_any, Option}
 use Rattle.sbp_world.proofs.Words.Wire.{Moment, Side}
 use Rattle.sbp_world.proofs.Words.World.{WorldState, machine_at}
 use Rattle.sbp_world.proofs.Words.Target.{is_reset, state_in}

@@ -1,8 +1,8 @@
 -- The ends that the target tells of in a call, and who has a place in a call that tells of no step and no pointer.
-use Rattle.sbp_world.proofs.Words.Std.{◌≡◌, ◌∙◌, refl, sym, ap, subst, inl, inr, ◌⊎◌, ◌<◌, ◌||◌, not, ℕ, suc, nat_eq, Bool, true, false, cond, List, [], ◌∷◌, Option, Some, None, nat_tests, false≢true, arith}
-use Rattle.sbp_world.proofs.Words.Wire.{Holder, Moment, Side, function_word, holder_at, said}
+use Rattle.sbp_world.proofs.Words.Std.{◌≡◌, ◌∙◌, refl, sym, ap, ◌||◌, ℕ, suc, nat_eq, Bool, true, false, cond, List, [], ◌∷◌, Option, Some, None, nat_tests, false≢true, arith}
+use Rattle.sbp_world.proofs.Words.Wire.{Holder, Moment, Side, function_word, said}
 use Rattle.sbp_world.proofs.Words.Initiator.{StatusKind}
-use Rattle.sbp_world.proofs.Words.Target.{NodeState, Phase, TargetScene, desk_at, state_in, is_reset}
+use Rattle.sbp_world.proofs.Words.Target.{Phase, TargetScene, desk_at}
 use Rattle.sbp_world.proofs.Words.Laws.{ends}
 use Rattle.sbp_world.proofs.Words.World.{WorldState, holder, initiator_of, told, told_all}
 use Rattle.command_agent.specs.Making.{is_at_work}
@@ -57,15 +57,6 @@ module _ (past : List Moment) (q i n : ℕ) where
   no_end (sides.Ended place orb status ∷ later) w h e = absurd (false≢true (sym e))
   no_end (side ∷ later) w h e = no_end later (told 0 side w) h.1 e
 
--- nor beside steps
-module _ (past : List Moment) (i n : ℕ) where
-  pub beside_end : (side : List Side) (w : WorldState) → AreBeside side → ends (hist past (told_all 0 side w)) i n ≡ ends (hist past w) i n
-  unfolding told_all told
-  beside_end [] w h = refl
-  beside_end (sides.Own note ∷ later) w h = absurd h.0
-  beside_end (sides.Ended place orb status ∷ later) w h = absurd h.0
-  beside_end (side ∷ later) w h = beside_end later (told 0 side w) h.1
-
 -- and an end at one place is of no other initiator than the one that has it
 ended_other : (j : ℕ) (x y : Option ℕ) (status : StatusKind) (ms : List Moment) (i n : ℕ) → (j ≡ i → ⊥) → ends (said (notes.Ended j x y status) ∷ ms) i n ≡ ends ms i n
 ended_other j None y status ms i n f = refl
@@ -91,9 +82,6 @@ module _ (past : List Moment) (q i n : ℕ) where
   other_end (side ∷ later) w h f = other_end later (told 0 side w) h.1 f
 
 -- ---- the phase behind an end
-pub over_up : (phase : Phase) → is_over phase ≡ true → not (is_reset (state_in phase)) ≡ true
-over_up phases.Reset e = absurd (false≢true e)
-over_up phase e = refl
 
 pub over_rests : (phase : Phase) → is_over phase ≡ true → is_at_work phase ≡ true → ⊥
 over_rests phases.WritingStatus e f = false≢true f

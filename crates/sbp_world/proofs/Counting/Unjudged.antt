@@ -1,37 +1,17 @@
 -- What a packet brings that is delivered to the target is due for it by its bytes: a write of MANAGEMENT_AGENT that is taken as new was not judged before, and is of the generation that the
 -- target is in.
-use Rattle.sbp_world.proofs.Words.Std.{arith, ◌≡◌, ◌∙◌, refl, sym, ap, subst, ℕ, zero, suc, ◌+◌, ◌≤◌, ◌<◌, ◌==◌, ◌&&◌, not, nat_eq, nat_tests, is_some, Bool, true, false, cond, List, ◌∷◌, length, Option, Some, None, Ok}
-use Rattle.sbp_world.proofs.Words.Wire.{Packet, Finding, judging_step, lock, lock_response, of_again, of_generation, of_grammar, of_label, of_request, of_response, read_block, read_block_response, read_quadlet, read_quadlet_response, write_block, write_quadlet, write_response, Header, Access, access_of, Moment, Sending, Sent, as_sending, between, said, terms, writing, part_of, request}
-use Rattle.sbp_world.proofs.Words.Target.{Demand, NodeState, Purpose, demand_of, is_barred, management_start}
-use Rattle.sbp_world.proofs.Words.Laws.{access_in, access_in_bytes, spelled_by}
+use Rattle.sbp_world.proofs.Words.Std.{arith, ◌≡◌, ◌∙◌, refl, ap, subst, ℕ, ◌≤◌, is_some, Bool, true, false, List, length, Option, Some, None}
+use Rattle.sbp_world.proofs.Words.Wire.{Packet, Finding, judging_step, lock, lock_response, of_again, of_generation, of_grammar, of_label, of_request, of_response, read_block, read_block_response, read_quadlet, read_quadlet_response, write_block, write_quadlet, write_response, Header, Access, access_of, Sent}
+use Rattle.sbp_world.proofs.Words.Target.{NodeState, Purpose, demand_of, is_barred, management_start}
+use Rattle.sbp_world.proofs.Words.Laws.{access_in, spelled_by}
 use Rattle.target_base.specs.declared.address.Demand.TheVariants as demands
 use Rattle.target_base.specs.Addresses.{register_at}
 use Rattle.label_table.specs.Requests.{reply_kind}
-use Rattle.sbp_journal.specs.declared.note.Note.TheVariants as notes
-use Rattle.bus_transactions.proofs.Facts.{asked_begun, request_asked}
-use Rattle.bus_transactions.proofs.PacketParts.{part_read}
 use Rattle.sbp_target.proofs.Histories.Found.{IsFound, found as found_as}
 use Rattle.sbp_target.specs.RequestsLeft.{demand_due, found_due}
-use Rattle.sbp_world.specs.Counting.Wire.{due_of, is_unjudged}
-use Rattle.sbp_world.proofs.Agents.Management.Hearing.{request_current}
+use Rattle.sbp_world.specs.Counting.Wire.{due_of}
 use Rattle.sbp_world.proofs.Counting.DueDemands.{request_brings}
-use Rattle.sbp_world.proofs.Lists.ManageKnown.{write_of}
-use Rattle.sbp_world.proofs.Lists.ManageTerms.{got_more, got_rests}
-use Rattle.sbp_world.proofs.Lists.ManageWire.{WireMoments}
-use Rattle.sbp_world.proofs.Lists.PlacedOps.{IsManageWrite, manage_write}
-
--- ---- a write that is got was not judged before
-module _ (serial : ℕ) (earlier : List Moment) (p : Sending) (w : WireMoments (said (notes.Got serial) ∷ earlier)) (sent : (terms earlier).sent serial ≡ Some p) (honest : p.injected ≡ false) (calm : (terms (said (notes.Got serial) ∷ earlier)).injects p.from ≡ false) (label : ℕ) (part : part_of p.bytes ≡ request label writing) where
-  sent_later : (terms (said (notes.Got serial) ∷ earlier)).sent serial ≡ Some p
-  sent_later = ap (λ (f : ℕ → Option Sending). f serial) (got_rests serial earlier).sent ∙ sent
-
-  pub not_judged : (terms earlier).news serial ≡ 0
-  not_judged =
-      let v = between p p.from p.to label in
-      let b = asked_begun p v honest (request_asked p label writing part) in
-      let most = (w.0.later.counts serial p sent_later).most v b (write_of p.bytes label part) (ap not calm) in
-      let more = got_more serial earlier p sent in
-      omega (arith, most, more)
+use Rattle.sbp_world.proofs.Lists.PlacedOps.{manage_write}
 
 -- ---- a request at MANAGEMENT_AGENT is barred by no login
 start_free : (node : NodeState) (header : Header) (payload : List ℕ) → is_barred node (write_block header management_start payload) ≡ false

@@ -1,15 +1,10 @@
 -- With each delivery of a packet in flight the wire weighs less, at each place of every run.
 use Rattle.sbp_world.proofs.Words.Std.{ℕ, List}
-use Rattle.sbp_world.proofs.Words.World.{Scene, after, beginning}
+use Rattle.sbp_world.proofs.Words.World.{Scene}
 use Rattle.sbp_world.specs.Counting.Wire.{WireFalls}
 use Rattle.sbp_world.proofs.Counting.WireDeliveries.{own_falls, target_falls}
-use Rattle.sbp_world.proofs.FitInitiator.Law.{fitting_law as own_fitting_law}
-use Rattle.sbp_world.proofs.FitTarget.Law.{fitting_law}
-use Rattle.sbp_world.proofs.Hosts.Carried.{stands_between}
-use Rattle.sbp_world.proofs.Hosts.Hosted.{Cored, cored_carried, first_cored}
 use Rattle.sbp_world.proofs.Words.Wire.{Moment}
 use Rattle.sbp_world.proofs.Wire.Holding.{Sound}
-use Rattle.sbp_world.proofs.Wire.Runs.{sound_after}
 
 pub wire_falls : {past : List Moment} {lines : ℕ} (s : Scene) → Sound past lines s.world → WireFalls s
 wire_falls s sound = record {

@@ -8,7 +8,6 @@ use Rattle.packet_store.specs.Weights.{weight}
 use Rattle.sbp_bus.specs.Sending as sending
 use Rattle.sbp_bus.specs.Weights.{last_after, leaving, leaving_to}
 use Rattle.sbp_bus.proofs.Leaving.{leaving_law}
-use Rattle.sbp_initiator.specs.Handing as own
 use Rattle.sbp_journal.specs.Addresses.{Start, agent_reset, agent_state, doorbell, management_agent, no_start, orb_pointer, register, rom_start, unsolicited_enable, writes_pointer, writes_quadlet}
 use Rattle.sbp_target.specs.Requests.{requests}
 use Rattle.sbp_world.specs.Counting.Wire.{FewerWeighLess, WeighsAtMost, due_at, due_by, due_of, flight_weight, manages_at, manages_by, manages_of, managing, packet_by}
@@ -18,7 +17,7 @@ use Rattle.sbp_world.proofs.Pointers.Quiet.{AreQuiet, writes_in}
 use Rattle.sbp_world.proofs.Wire.Alike.{told_alike}
 
 -- ---- a packet
-one_most : (b : Bool) → cond b 1 0 ≤ 1
+pub one_most : (b : Bool) → cond b 1 0 ≤ 1
 one_most true = omega arith
 one_most false = omega arith
 

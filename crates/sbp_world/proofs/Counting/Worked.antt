@@ -8,15 +8,12 @@ use Rattle.agent_laws.specs.Along.Along.{Knows, Progress}
 use Rattle.agent_laws.specs.Along.Lists.{OrbList}
 use Rattle.command_agent.specs.Making.{is_at_work}
 use Rattle.command_agent.specs.declared.phase.Phase.TheVariants as phases
-use Rattle.sbp_world.proofs.Common.{itself}
+use Rattle.sbp_world.proofs.Common.{itself, all_three, not_true, or_left, or_right}
 use Rattle.sbp_world.proofs.Lists.Busy.{busy_list, is_busy}
 use Rattle.sbp_world.specs.Counting.Rooms.{half_of, is_at_work_in, is_begun, is_worked, room, works_at, works_below}
 use Rattle.sbp_world.specs.Lists.Along.{AreAlong}
 
 -- ---- truth values
-pub same_or : (b : Bool) → (b ≡ true → ⊥) → b ≡ false
-same_or true f = absurd (f refl)
-same_or false f = refl
 
 pub not_both : {A : Type 0} (b : Bool) → b ≡ false → b ≡ true → A
 not_both b e f = absurd (false≢true (sym e ∙ f))
@@ -26,12 +23,6 @@ three true true true e = (refl, (refl, refl))
 three true true false e = absurd (false≢true e)
 three true false z e = absurd (false≢true e)
 three false y z e = absurd (false≢true e)
-
-all_three : (x y z : Bool) → x ≡ true → y ≡ true → z ≡ true → (x && y && z) ≡ true
-all_three true true true e f g = refl
-all_three true true false e f g = g
-all_three true false z e f g = f
-all_three false y z e f g = e
 
 -- ---- agents at work
 -- the phases in which an agent is at work are those in which it has an ORB that has not ended
@@ -132,14 +123,6 @@ module _ (w : WorldState) (i n : ℕ) where
       let listed : is_list (holder w place).list n ≡ true = ap (λ x. is_list x n) k.list ∙ itself n in
       all_three (nat_eq (initiator_in w place) i) (is_list (holder w place).list n) (is_at_work_in w place) test listed k.busy
 
-  right_true : (x y : Bool) → y ≡ true → (x || y) ≡ true
-  right_true true y e = refl
-  right_true false y e = e
-
-  left_true : (x y : Bool) → x ≡ true → (x || y) ≡ true
-  left_true true y e = refl
-  left_true false y e = absurd (false≢true e)
-
   below : (k : WorksOn w i n) (places : ℕ) → k.place < places → works_below w i n places ≡ true
   unfolding works_below
   below k zero b = absurd (omega (arith, b))
@@ -148,11 +131,11 @@ module _ (w : WorldState) (i n : ℕ) where
       by : (x : Bool) → nat_eq k.place place ≡ x → (k.place < place → works_below w i n place ≡ true) → (works_at w i n place || works_below w i n place) ≡ true
       by true e rest =
           let same : k.place ≡ place = grind (arith, nat_tests) in
-          left_true (works_at w i n place) (works_below w i n place) (subst (λ p. works_at w i n p ≡ true) same (at_place k))
+          or_left (works_at w i n place) (works_below w i n place) (subst (λ p. works_at w i n p ≡ true) same (at_place k))
       by false e rest =
           let other : k.place ≡ place → ⊥ = λ same. false≢true (sym e ∙ (let z : nat_eq k.place place ≡ true = grind (arith, nat_tests) in z)) in
           let low = b in
-          right_true (works_at w i n place) (works_below w i n place) (rest (grind arith))
+          or_right (works_at w i n place) (works_below w i n place) (rest (grind arith))
 
   pub is_worked_by : WorksOn w i n → is_worked w i n ≡ true
   is_worked_by k = below k 8 k.small
@@ -199,4 +182,4 @@ module _ (all : List Moment) (w : WorldState) (i n k : ℕ) where
   room_none b = ap (λ x. cond x 0 (half_of (command_at all i n k))) (is_begun_by b)
 
   pub room_new : (Begun → ⊥) → room all w i n k ≡ half_of (command_at all i n k)
-  room_new f = ap (λ x. cond x 0 (half_of (command_at all i n k))) (same_or (is_begun all w i n k) (λ e. f (begun_by e)))
+  room_new f = ap (λ x. cond x 0 (half_of (command_at all i n k))) (not_true (is_begun all w i n k) (λ e. f (begun_by e)))

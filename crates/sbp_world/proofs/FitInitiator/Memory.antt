@@ -256,11 +256,19 @@ rcode_small AddressError = omega arith
 pub taken_length : (at count : ℕ) (xs : List ℕ) → at + count ≤ length xs → length (take count (drop at xs)) ≡ count
 taken_length at count xs h = simp (length-take, length-drop) (omega arith)
 
+read_length : (m : Memory) (out : List ℕ) (r : Result Spot Rcode) → IfInside m (length out) r → length (read_at m out r).1 ≡ length out
+read_length m out (Ok spot) i = taken_length spot.at (length out) (bytes_in m spot.window) i
+read_length m out (Err rcode) i = refl
+
+-- a read gives as many bytes as there is room for
+pub read_long : (m : Memory) (offset : ℕ) (out : List ℕ) → length (read_step m offset out).1 ≡ length out
+read_long m offset out = read_length m out (judged m Read offset (length out)) (judged_inside m Read offset (length out))
+
 read_by : (m : Memory) (out : List ℕ) (r : Result Spot Rcode) → FitsMemory m → AreBytes out → IfInside m (length out) r → FitsRead (length out) (read_at m out r)
 read_by m out (Ok spot) f a i = record {
   small = omega arith;
   bytes = bytes_take (length out) (drop spot.at (bytes_in m spot.window)) (bytes_drop spot.at (bytes_in m spot.window) (window_bytes m spot.window f));
-  long = taken_length spot.at (length out) (bytes_in m spot.window) i;
+  long = read_length m out (Ok spot) i;
 }
 read_by m out (Err rcode) f a i = record { small = rcode_small rcode; bytes = a; long = refl }
 

@@ -391,7 +391,7 @@ ahead_got m (Err cause) b a = ahead_over m cause a
 quiets : (m : Machine) → FitsAgent m → FitsStep (quiet, m)
 quiets m a = record { ask = tt; ahead = tt; agent = a }
 
-told_bytes : (told : Option Told) → BytesTold told → AreBytes (told_or told).answer
+pub told_bytes : (told : Option Told) → BytesTold told → AreBytes (told_or told).answer
 told_bytes None b = no_bytes
 told_bytes (Some told) b = b
 

@@ -1,5 +1,5 @@
 -- A request that is served takes what is said before its answer to what is said behind it, by an answer that fits.
-use Rattle.sbp_world.proofs.Words.Std.{arith, ◌≡◌, refl, sym, ap, ◌∙◌, subst, ℕ, ◌+◌, ◌^◌, ◌<◌, ◌&&◌, not, Bool, true, false, cond, List, [], ◌∷◌, ◌++◌, length, take, drop, Option, Some, None, Result, Ok, Err, big_bytes}
+use Rattle.sbp_world.proofs.Words.Std.{arith, ◌≡◌, refl, sym, ap, ◌∙◌, subst, ℕ, ◌^◌, ◌<◌, ◌&&◌, not, Bool, true, false, cond, List, [], ◌∷◌, ◌++◌, length, take, drop, Option, Some, None, Result, Ok, Err, big_bytes}
 use Rattle.sbp_world.proofs.Words.Wire.{Packet, header_in, AreBytes, FitsAnswer, answer_to, Gives, Layer, answering_step, Outgoing, Side, OutboxState}
 use Rattle.sbp_world.proofs.Words.Target.{Login, if_of_node, is_live, Busy, PointRefusal, Machine, present_of, state_in, asks, doorbell_step, point_step, Access, AgentRegister, Demand, Desk, Purpose, complete, conflict_error, demand_of, is_lock, offset_in, reached, register_at, row_of, pointed_desk, answer_step, answered_by, with_side, NodeState, Scene, scene, desk_at, login_at, with_desk, with_agent, cut, orb_of, is_barred_at, answered, state_number, last_pointer, pointer_bytes, asked_in, pointed_by, point, rung_by, ring, enabled, accessed_by, started_by, start, served_as, serve, is_barred}
 use Rattle.sbp_world.proofs.Words.Initiator.{Ask, OrbPointer, IsPointer, pointer_high, pointer_low}

@@ -1,6 +1,6 @@
 -- In every run each transaction that is under way in an initiator's layer is with its target.
 use Rattle.sbp_world.proofs.Words.Std.{◌≡◌, refl, sym, ◌∙◌, ap, subst, ℕ, ◌+◌, nat_lt, Bool, true, false, cond, List, [], ◌∷◌, Option, Some, None}
-use Rattle.sbp_world.proofs.Words.Wire.{LabelParts, ReplyKind, Told, and_before, forgotten, life, not_begun, under_way, Layer, expiring_step, judging_step, seeing_step, seen_in_generation, OutboxState, empty_outbox, Moment}
+use Rattle.sbp_world.proofs.Words.Wire.{LabelParts, ReplyKind, and_before, forgotten, life, not_begun, under_way, Layer, expiring_step, judging_step, seeing_step, seen_in_generation, OutboxState, empty_outbox, Moment}
 use Rattle.sbp_world.proofs.Words.Initiator.{Purpose, InitiatorState, act_step, dropped_as, new_state, expire_step, receive_step, interrupted, resets_told, see_step, seen_as, wanted_body, ListState, drop_lists, acts, lets_expire, receives, sees}
 use Rattle.label_table.specs.History as wire
 use Rattle.sbp_initiator.specs.declared.purpose.Purpose.TheVariants as purposes
@@ -67,7 +67,7 @@ see_aims : (generation id target : ℕ) (s : InitiatorState) → Called s.layer 
 unfolding see_step seeing_step
 see_aims generation id target s c h = seen_aims (nat_lt s.layer.generation generation) generation id target s refl c h
 
-abbrev Aimeds : Bool → List Moment → ℕ → InitiatorState → Type 0
+abbrev pub Aimeds : Bool → List Moment → ℕ → InitiatorState → Type 0
 Aimeds ready past i s = IsAimed ready i s
 
 module _ (ready : Bool) where

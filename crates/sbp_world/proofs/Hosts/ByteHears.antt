@@ -31,7 +31,7 @@ none_if true = refl
 none_if false = refl
 
 -- a FIFO stands behind every buffer
-fifo_high : (logins : ℕ) (out : Bool) (offset : ℕ) (f : Fifo) → fifo_at logins out offset ≡ Some f → 0x1200_2000 ≤ offset
+pub fifo_high : (logins : ℕ) (out : Bool) (offset : ℕ) (f : Fifo) → fifo_at logins out offset ≡ Some f → 0x1200_2000 ≤ offset
 unfolding fifo_at
 fifo_high logins out offset f e = by_tests (offset == place_fifo 0) (offset == place_fifo 1) (is_open_login logins out offset) (is_login_fifo offset) refl refl refl refl e
   where

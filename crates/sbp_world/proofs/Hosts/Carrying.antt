@@ -1,4 +1,5 @@
 -- The responses of every run bring what the memory of their initiator held.
+use Rattle.sbp_world.proofs.Common.{not_true}
 use Rattle.sbp_world.proofs.Words.Std.{arith, ◌≡◌, refl, sym, ◌∙◌, ap, subst, ℕ, suc, ◌+◌, ◌*◌, ◌<◌, ◌≤◌, nat_lt, Bool, true, false, cond, List, [], ◌∷◌, ◌++◌, length, map, Option, Some, append_assoc, nat_tests}
 use Rattle.sbp_world.proofs.Words.Wire.{Packet, reading, SerialsCount, Access, Moment, said, Sending, terms, Event}
 use Rattle.sbp_world.proofs.Words.Target.{Told}
@@ -12,7 +13,7 @@ use Rattle.sbp_world.proofs.Hosts.Carries.{by_more}
 use Rattle.sbp_world.proofs.Hosts.Between.{OfWire, between, carried_there, of_wire, of_wire_there}
 use Rattle.sbp_world.proofs.Hosts.Carried.{of_runs}
 use Rattle.sbp_world.proofs.Hosts.Deliveries.{GotsIn, find_got}
-use Rattle.sbp_world.proofs.Hosts.GotServed.{Goes, IsGot, gots_between, gots_of}
+use Rattle.sbp_world.proofs.Hosts.GotServed.{Goes, IsGot, gots_between, gots_of, responds}
 use Rattle.sbp_world.proofs.Hosts.Lasting.{Lasting, first_lasting, from_moment, lasting_carried}
 use Rattle.sbp_world.proofs.Hosts.LastingTerms.{AllLast}
 use Rattle.sbp_world.proofs.Hosts.OrbRuns.{rows_known}
@@ -25,11 +26,11 @@ use Rattle.sbp_world.proofs.Hosts.SlotIgnored.{AllWrites}
 use Rattle.sbp_world.proofs.Hosts.Slotted.{writes_between, writes_of}
 
 -- what a run's history has for this
-record Stood (all : List Moment) (i : ℕ) : Type 0 where
-  wire : OfWire all
-  gots : GotsIn (IsGot all) all
-  writes : AllWrites all i
-  last : AllLast all i
+pub record Stood (all : List Moment) (i : ℕ) : Type 0 where
+  pub wire : OfWire all
+  pub gots : GotsIn (IsGot IsReplied all) all
+  pub writes : AllWrites all i
+  pub last : AllLast all i
 
 pub last_from : (later before : List Moment) (i : ℕ) → AllLast (later ++ before) i → AllLast before i
 last_from [] before i h = h
@@ -74,6 +75,20 @@ own_orb before all i n k slot bytes below place lasts c =
 
 -- ---- a response
 
+-- the packet behind the note that its request was got
+pub reply_packet : (all past now rest : List Moment) (i ask : ℕ) (access : Access) → SerialsCount all → rest ++ now ≡ all → (answer : IsReplied past i ask access now) → (reply : ℕ) → reply ≡ (terms past).count + 1 → packet_at (terms all) reply ≡ spelled_by (reading answer.bytes)
+reply_packet all past now rest i ask access serials is answer reply next =
+    let t = terms past in
+    let before = map said answer.effects ++ said (notes.Got ask) ∷ past in
+    let counts : SerialsCount (rest ++ now) = subst SerialsCount (sym is) serials in
+    let kept : Remains now all = subst (Remains now) is (remains rest now counts) in
+    let counted : (terms now).count ≡ (terms before).count + 1 = ap (λ ms. (terms ms).count) answer.is ∙ count_now before (t.count + 1) (t.generation (suc i)) (suc i) answer.to answer.bytes in
+    let serial : t.count + 1 ≡ (terms before).count + 1 = (subst SerialsCount answer.is (serials_from rest now counts)).0 in
+    ap (packet_at (terms all)) next
+    ∙ (ap packet_in (kept.sent (t.count + 1) (omega arith))
+    ∙ (ap (λ ms. packet_in ((terms ms).sent (t.count + 1))) answer.is
+    ∙ ap packet_in (sent_there before (t.count + 1) (t.generation (suc i)) (suc i) answer.to answer.bytes)))
+
 module _ (all : List Moment) (i : ℕ) (st : Stood all i) (reply ask : ℕ) (access : Access) (bytes : List ℕ) (r : IsResponse all i reply ask access bytes) where
   found : GotBehind all reply ask (replied all i st.wire st.writes reply ask access bytes r).asking
   found = got_behind all i st.wire st.writes reply ask access bytes r
@@ -97,10 +112,10 @@ module _ (all : List Moment) (i : ℕ) (st : Stood all i) (reply ask : ℕ) (acc
   remain : (later before : List Moment) → later ++ before ≡ all → Remains before all
   remain later before e = subst (Remains before) e (remains later before (subst SerialsCount (sym e) st.wire.laws.serials))
 
-  got : IsGot all ask past
-  got = find_got (IsGot all) found.later past ask (subst (GotsIn (IsGot all)) (sym found.is) st.gots)
+  got : IsGot IsReplied all ask past
+  got = find_got (IsGot IsReplied all) found.later past ask (subst (GotsIn (IsGot IsReplied all)) (sym found.is) st.gots)
 
-  goes : Goes all past i ask packet access
+  goes : Goes IsReplied all past i ask packet access
   goes = got.goes i packet access (record {
     to_it = ap receiver_in found.was ∙ ap (λ n. Some n) (to_it all i st.wire st.writes reply ask access bytes r);
     spelled = ap packet_in found.was ∙ ap spelled_by (asks all i st.wire st.writes reply ask access bytes r).read;
@@ -112,16 +127,7 @@ module _ (all : List Moment) (i : ℕ) (st : Stood all i) (reply ask : ℕ) (acc
 
   -- the packet there is the response
   sent_all : packet_at (terms all) reply ≡ spelled_by (reading answer.bytes)
-  sent_all =
-      let t = terms past in
-      let before = map said answer.effects ++ said (notes.Got ask) ∷ past in
-      let kept = remain goes.rest goes.now goes.is in
-      let counted : (terms goes.now).count ≡ (terms before).count + 1 = ap (λ ms. (terms ms).count) answer.is ∙ count_now before (t.count + 1) (t.generation (suc i)) (suc i) answer.to answer.bytes in
-      let serial : t.count + 1 ≡ (terms before).count + 1 = (subst SerialsCount answer.is (serials_from goes.rest goes.now (subst SerialsCount (sym goes.is) st.wire.laws.serials))).0 in
-      ap (packet_at (terms all)) found.next
-      ∙ (ap packet_in (kept.sent (t.count + 1) (omega arith))
-      ∙ (ap (λ ms. packet_in ((terms ms).sent (t.count + 1))) answer.is
-      ∙ ap packet_in (sent_there before (t.count + 1) (t.generation (suc i)) (suc i) answer.to answer.bytes)))
+  sent_all = reply_packet all past goes.now goes.rest i ask access st.wire.laws.serials goes.is answer reply found.next
 
   served : IsServed past i access bytes
   served = answer.served bytes (ap answer_in (sym sent_all) ∙ r.tells)
@@ -192,13 +198,9 @@ all_bring all i st = λ reply ask access bytes r. brings all i st reply ask acce
 
 -- ---- packets of an initiator that injected none
 
-none_by : (b : Bool) → (b ≡ true → ⊥) → b ≡ false
-none_by true h = absurd (h refl)
-none_by false h = refl
-
 none_injected : (all : List Moment) (i : ℕ) → OfWire all → NoneInjected all i
 none_injected all i wire none serial packet sent from =
-    none_by packet.injected
+    not_true packet.injected
     (λ e. absurd (differ (sym none ∙ (ap (terms all).injects (sym from) ∙ (wire.facts.honest serial packet sent).bold e))))
   where
     differ : false ≡ true → ⊥
@@ -206,18 +208,18 @@ none_injected all i wire none serial packet sent from =
 
 -- ---- a run
 
-stood : (line : ℕ) (run : Run) (q : IsRun run) (i : ℕ) → i < run.initiators → Stood (history_of line run) i
+pub stood : (line : ℕ) (run : Run) (q : IsRun run) (i : ℕ) → i < run.initiators → Stood (history_of line run) i
 stood line run q i b = record {
   wire = of_wire line run q;
-  gots = gots_of line run q;
+  gots = gots_of IsReplied responds line run q;
   writes = writes_of line run q i b;
   last = (of_runs (Lasting run.ready) (lasting_carried run.ready) line run (rows_known line run) (λ j c. first_lasting line j run.initiators run.ready) q i b).all;
 }
 
-stood_between : (line : ℕ) (run : Run) (q : IsRun run) (next : ℕ) (event : Event) (told : List (Option Told)) → IsDelivering event told → MayAll told (begun (after (beginning run) run.entries)) → (i : ℕ) → i < run.initiators → Stood (between line run q next event told) i
+pub stood_between : (line : ℕ) (run : Run) (q : IsRun run) (next : ℕ) (event : Event) (told : List (Option Told)) → IsDelivering event told → MayAll told (begun (after (beginning run) run.entries)) → (i : ℕ) → i < run.initiators → Stood (between line run q next event told) i
 stood_between line run q next event told d m i b = record {
   wire = of_wire_there line run q next event told d m;
-  gots = gots_between line run q next event told d m;
+  gots = gots_between IsReplied responds line run q next event told d m;
   writes = writes_between line run q next event told d m i b;
   last = (carried_there line run q next (Lasting run.ready) (by_more (lasting_carried run.ready)) (rows_known line run) (λ j c. first_lasting line j run.initiators run.ready) i b event told d m).all;
 }

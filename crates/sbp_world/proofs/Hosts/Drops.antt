@@ -1,6 +1,6 @@
 -- The present list is dropped, and a generation frees every slot.
 use Rattle.sbp_world.proofs.Words.Std.{◌≡◌, refl, sym, ◌∙◌, ap, subst, ℕ, ◌+◌, ◌<◌, Bool, true, false, cond, List, [], ◌∷◌, length, map, replicate, Option, Some, None, length-map}
-use Rattle.sbp_world.proofs.Words.Initiator.{SlotState, Slot, TicketParts, SlotTable, slot_in, is_free, free_state, rested}
+use Rattle.sbp_world.proofs.Words.Initiator.{SlotState, Slot, TicketParts, SlotTable, slot_in, is_free, rested}
 use Rattle.sbp_world.proofs.Words.Laws.{TakenStatus, Row, vacant, put_to_rest, new_slots}
 use Rattle.sbp_world.proofs.Words.World.{name_in, row, row_by, ListTerms, over_at, IfLast, StateFits, IfHeld, Fits, Frees, Rows}
 use Rattle.orb_list.specs.declared.slot.SlotState.TheVariants as states

@@ -5,14 +5,15 @@ use Rattle.sbp_world.proofs.Words.Laws.{Orb, prepared_in, host_reply}
 use Rattle.sbp_world.proofs.Words.World.{history_of, Run, IsDelivered, FinishedLaw, GoesOnWith, IsRun}
 use Rattle.sbp_journal.specs.declared.note.Note.TheVariants as notes
 use Rattle.sbp_world.proofs.Hosts.Deliveries.{deliveries_law}
-use Rattle.sbp_world.proofs.Hosts.GotServed.{IsAsked, was_got}
+use Rattle.sbp_world.proofs.Hosts.GotServed.{IsAsked, responds, was_got}
 use Rattle.sbp_world.proofs.Hosts.Remaining.{gets_same, remaining_law, serials}
+use Rattle.sbp_world.proofs.Hosts.Replied.{IsReplied}
 use Rattle.sbp_world.proofs.Hosts.SentMoments.{serials_from}
 use Rattle.sbp_world.proofs.Hosts.SlotReads.{are_reads}
 
 pub goes_on : (line : ℕ) (run : Run) → IsRun run → (past : List Moment) (serial : ℕ) → IsDelivered line run serial past → (i : ℕ) (packet : Packet) (access : Access) → IsAsked past i serial packet access → (slot : ℕ) (found : Orb) → slot < 32 → prepared_in past i slot ≡ Some found → (host_reply past i access).rcode ≡ 0 → GoesOnWith past (history_of line run) i serial slot found access
 goes_on line run q past serial d i packet access a slot found small prepared complete =
-    let k = (was_got line run serial past d).goes i packet access a in
+    let k = (was_got IsReplied responds line run serial past d).goes i packet access a in
     record {
       now = k.now;
       rest = k.rest;

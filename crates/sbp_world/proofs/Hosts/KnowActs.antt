@@ -2,7 +2,7 @@
 use Rattle.sbp_world.proofs.Words.Std.{◌≡◌, refl, sym, ◌∙◌, ap, subst, ℕ, suc, ◌+◌, ◌==◌, ◌||◌, not, nat_eq, Bool, true, false, cond, List, [], ◌∷◌, ◌++◌, Option, Some, None}
 use Rattle.sbp_world.proofs.Words.Wire.{Asked, Layer, Moment, said, Terms, terms, OutboxState, empty_outbox, buffer_of, Action, Cmd, NoteBuffer, Outgoing}
 use Rattle.sbp_world.proofs.Words.Initiator.{PresentList, ListState, dummy_lists, high_lists, low_lists, find_in, list_number, may_prepare, TicketParts, Seat, goes, pointing, sent, points, Demand, Purpose, InitiatorState, act_step, append_step, asked_as, asked_for, counted, demand_of, demanded_as, done_step, dummy_for, facts_with, judged_as, link_as, link_step, login_id, low_as, low_step, managed_by, orb_by, pinned_for, put_as, put_step, ring_for, with_running, put_lists, Turn, told, is_in_held, is_in_live, is_in_out, refusal, is_list, is_unwritten, last_linked, no_marks, place_of, session_of}
-use Rattle.sbp_world.proofs.Words.Laws.{event_of, Session, host_at, operation_of}
+use Rattle.sbp_world.proofs.Words.Laws.{event_of, host_at}
 use Rattle.sbp_world.proofs.Words.World.{behind, Core, host_core, operation_by, own_core, session_in}
 use Rattle.sbp_journal.specs.declared.event.Action.TheVariants as actions
 use Rattle.sbp_journal.specs.declared.event.Event.TheVariants as events

@@ -2,20 +2,18 @@
 -- and that its target is a node.
 use Rattle.sbp_world.proofs.Words.Std.{arith, ◌≡◌, refl, sym, ◌∙◌, ap, ℕ, suc, ◌<◌, ◌≤◌, not, nat_eq, nat_lt, Bool, true, false, List, length, Some, nat_tests}
 use Rattle.sbp_world.proofs.Words.Wire.{Node, as_sending, Layer, seeing_step, Sent, found_sent, is_flying, Stored, Moment, Terms, terms, id_of, node_of}
-use Rattle.sbp_world.proofs.Words.Initiator.{Purpose}
 use Rattle.sbp_world.proofs.Words.World.{WorldState, initiator_at, Stands, history, MaySee}
 use Rattle.bus_transactions.proofs.Follows.{found_kept}
 use Rattle.bus_transactions.proofs.Reaches.{goes_on}
 use Rattle.sbp_world.proofs.Wire.Bus.{aged, holds}
 use Rattle.sbp_world.proofs.Wire.Found.{node_found}
 use Rattle.sbp_world.proofs.Wire.Holding.{NodesOf, to_target}
-use Rattle.sbp_world.proofs.Sessions.BlockNotes.{judges_sent, closes_if_sent, closes_sent, gets_sent}
 
 -- ---- a packet that is got stays as it was sent
 
 -- ---- a sight
 
-pub seen_flag : (layer : Layer Purpose) (generation node : ℕ) → (seeing_step layer generation node).0 ≡ nat_lt layer.generation generation
+pub seen_flag : {P : Type 0} (layer : Layer P) (generation node : ℕ) → (seeing_step layer generation node).0 ≡ nat_lt layer.generation generation
 unfolding seeing_step
 seen_flag layer generation node = by_test (nat_lt layer.generation generation) refl
   where
@@ -31,6 +29,9 @@ is_later own seen known e l = by_tests (nat_lt own seen) (nat_eq seen known) ref
     by_tests false true f g = refl
     by_tests true true f g = absurd (grind (arith, nat_tests))
     by_tests false false f g = absurd (grind (arith, nat_tests))
+
+pub seen_test : (own seen known : ℕ) → own ≤ seen → known ≡ own → not (nat_eq seen known) ≡ nat_lt own seen
+seen_test own seen known l e = sym (is_later own seen known (sym e) l)
 
 -- ---- of a world
 

@@ -4,6 +4,7 @@ use Rattle.sbp_world.proofs.Words.Std.{◌≡◌, refl, sym, ◌∙◌, ap, ℕ,
 use Rattle.sbp_world.proofs.Words.Wire.{LabelParts, Packet, header_in, lock, lock_response, read_block, read_block_response, read_quadlet, read_quadlet_response, write_block, write_quadlet, write_response, Asked, Stale, Body, Finding, Layer, answering_step, asking_step, expiring_step, judging_step, of_again, of_generation, of_grammar, of_label, of_request, of_response, OutboxState, empty_outbox, Judged, Note, Operation, OpWord, Side}
 use Rattle.sbp_world.proofs.Words.Target.{RomFault, SbpUnit, Tree, reading, sbp_unit_of, is_block}
 use Rattle.sbp_world.proofs.Words.Initiator.{read_step, OrbFault, StatusBlock, StatusKind, ListState, drop_lists, take_lists, write_lists, TicketParts, Event, bad, conflict, is_stuck_seat, Fifo, is_dead_kind, management_at, with_quad, Ending, Purpose, Running, InitiatorState, Turn, ask_quad, asked_quad, conflict_for, conflict_step, doorbell_ended, drop_list_step, drop_where, dropped_as, enable_ended, end_own_for, end_own_step, end_step, ended_for, ended_step, fail_step, fault_number, finish_rom, good_end, good_event, good_word, is_address, is_conflict, known_step, known_where, managed_step, management_ended, moved, moves_session, next_quad, pointer_ended, quad_got, reset_ended, response_of, rom_ended, state_ended, state_told, stick_step, told, with_dead, with_rom, with_unit, address_error, addressed, answer_of, block_at, block_by, block_step, called, expire_step, expired_as, fifo_of, got_step, ignored_step, is_foreign, managed_for, present_for, quadlet_at, read_as, receive_step, received, request_step, respond_step, responded_as, serve_step, status_step, taken_as, taken_by, type_error, written_as, ends_list, counts_for, ending_of, is_list, status_in}
+use Rattle.sbp_world.proofs.Words.World.{AreOthers}
 use Rattle.orb_layout.specs.declared.status.StatusKind.TheVariants as kinds
 use Rattle.sbp_journal.specs.declared.cause.Cause.TheVariants as causes
 use Rattle.sbp_journal.specs.declared.note.Note.TheVariants as notes
@@ -40,6 +41,22 @@ AreTame told = AllByRecursion IsTame told
 pub tame_more : (told : List Side) (side : Side) → AreTame told → IsTame side → AreTame (told ++ side ∷ [])
 tame_more [] side h f = (f, tt)
 tame_more (first ∷ told) side h f = (h.0, tame_more told side h.1 f)
+
+-- ---- sides whose notes are so, where those of an initiator's calls are
+module _ (is_plain : Note → Bool) where
+  abbrev pub IsFine : Side → Type 0
+  IsFine (sides.Own note) = is_plain note ≡ true
+  IsFine _ = Unit {0}
+
+  pub others_fine : (told : List Side) → AreOthers told → AllByRecursion IsFine told
+  others_fine [] h = tt
+  others_fine (sides.Own note ∷ later) h = absurd h.0
+  others_fine (_ ∷ later) h = (tt, others_fine later h.1)
+
+  pub tame_fine : ((note : Note) → is_tame note ≡ true → is_plain note ≡ true) → (told : List Side) → AreTame told → AllByRecursion IsFine told
+  tame_fine plain [] h = tt
+  tame_fine plain (sides.Own note ∷ later) h = (plain note h.0, tame_fine plain later h.1)
+  tame_fine plain (_ ∷ later) h = absurd h.0
 
 -- ---- what is left of a layer: its labels, or those behind the read of a quadlet of the target's ROM
 

@@ -1,5 +1,5 @@
 -- The last ORB of the present list is linked behind the one before it: first the low quadlet of its next pointer, then the high one.
-use Rattle.sbp_world.proofs.Words.Std.{arith, ◌≡◌, refl, sym, ◌∙◌, ap, subst, ℕ, suc, ◌+◌, ◌<◌, ◌≤◌, ◌&&◌, ◌||◌, not, nat_eq, nat_lt, Bool, true, false, cond, List, map, Option, Some, None, nat_tests}
+use Rattle.sbp_world.proofs.Words.Std.{◌≡◌, refl, sym, ◌∙◌, ap, subst, ℕ, suc, ◌+◌, ◌&&◌, ◌||◌, not, nat_eq, nat_lt, Bool, true, false, cond, List, map, Option, Some, None}
 use Rattle.sbp_world.proofs.Words.Initiator.{Link, PresentList, SlotState, TicketParts, SlotTable, slot_in, is_done}
 use Rattle.sbp_world.proofs.Words.Laws.{TakenStatus, Row}
 use Rattle.sbp_world.proofs.Words.World.{ListTerms, over_at, linked_by, LoweredFits, StateFits, Fits, Frees, Rows}
@@ -7,7 +7,7 @@ use Rattle.orb_list.specs.declared.list.Link.TheVariants as links
 use Rattle.orb_list.specs.declared.slot.SlotState.TheVariants as states
 use Rattle.orb_list.specs.Table as table
 use Rattle.sbp_world.proofs.Hosts.Sweeps.{closes, closes_still}
-use Rattle.sbp_world.proofs.Common.{itself}
+use Rattle.sbp_world.proofs.Common.{itself, above}
 
 -- the terms behind the low quadlet, and behind the high one
 abbrev pub low_terms : Bool → (n k : ℕ) → ListTerms → ListTerms
@@ -30,9 +30,6 @@ state_link list link taken (states.Taken had_next) (Some v) x = x
 -- the table with another link
 abbrev linked_table : SlotTable → PresentList → Link → SlotTable
 linked_table s list link = record s { present = Some (with_link list link); calls = s.calls + 1 }
-
-other_list : (m n begun : ℕ) → n < begun → begun ≤ m → nat_eq m n ≡ false
-other_list m n begun a b = grind (arith, nat_tests)
 
 module _ (t : ListTerms) (s : SlotTable) (list : PresentList) (f : Fits t (record s { present = Some list })) where
   low_fits : (before : ℕ) → list.link ≡ links.Low before → Fits (low_terms true list.tail.list list.tail.number t) (linked_table s list (links.High before))
@@ -58,7 +55,7 @@ module _ (t : ListTerms) (s : SlotTable) (list : PresentList) (f : Fits t (recor
         to_come = record {
           appended = f.to_come.appended;
           linked = f.to_come.linked;
-          lowered = λ n b. ap (λ c. cond c list.tail.number (t.lowered n)) (other_list n list.tail.list s.lists x.below b) ∙ f.to_come.lowered n b;
+          lowered = λ n b. ap (λ c. cond c list.tail.number (t.lowered n)) (above n list.tail.list s.lists x.below b) ∙ f.to_come.lowered n b;
           passed = f.to_come.passed;
           taken = f.to_come.taken;
         };
@@ -86,7 +83,7 @@ module _ (t : ListTerms) (s : SlotTable) (list : PresentList) (f : Fits t (recor
         };
         to_come = record {
           appended = f.to_come.appended;
-          linked = λ n b. ap (λ c. cond c (suc list.tail.number) (t.linked n)) (other_list n list.tail.list s.lists x.below b) ∙ f.to_come.linked n b;
+          linked = λ n b. ap (λ c. cond c (suc list.tail.number) (t.linked n)) (above n list.tail.list s.lists x.below b) ∙ f.to_come.linked n b;
           lowered = f.to_come.lowered;
           passed = f.to_come.passed;
           taken = f.to_come.taken;

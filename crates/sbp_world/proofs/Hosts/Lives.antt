@@ -1,7 +1,7 @@
 -- What is under way in an initiator's layer, by the steps of the layer: what waits behind a packet that was judged, a time-out or a request
 -- did so before, or is that request.
 use Rattle.sbp_world.proofs.Words.Std.{◌≡◌, refl, sym, ◌∙◌, ap, subst, ℕ, Bool, true, false, cond, List, ◌∷◌, Option, Some, None, Result, Ok, Err}
-use Rattle.sbp_world.proofs.Words.Wire.{PacketFault, LabelParts, Packet, header_in, reading, Asked, ReplyKind, Stale, Body, Finding, Layer, asking_step, expiring_step, judging_step, of_again, of_generation, of_grammar, of_label, of_request, of_response, unlabelled, Life, Told, and_before, began, closed, disowned, ended, expired, for_nobody, forgotten, lets_expire, life, not_begun, over, told_by_asking, told_by_expiring, told_by_finding, told_by_reading, told_closed, told_unknown, under_way, unknown, was_stale, purpose_for, state_for, kind_of, reply_kind}
+use Rattle.sbp_world.proofs.Words.Wire.{PacketFault, LabelParts, Packet, header_in, reading, Asked, ReplyKind, Stale, Body, Finding, Layer, asking_step, expiring_step, judging_step, of_again, of_generation, of_grammar, of_label, of_request, of_response, unlabelled, Life, Told, and_before, began, ended, lets_expire, life, not_begun, over, told_by_asking, told_by_expiring, told_by_finding, told_by_reading, told_closed, told_unknown, under_way, purpose_for, state_for, kind_of, reply_kind}
 use Rattle.sbp_world.proofs.Words.Initiator.{Purpose}
 use Rattle.label_table.specs.declared.place.LabelState.TheVariants as states
 use Rattle.label_table.specs.History.{asks, is_same, judges}

@@ -1,5 +1,5 @@
 -- The bytes of an ORB and of a page table in a slot, as the run terms have them.
-use Rattle.sbp_world.proofs.Words.Std.{◌≡◌, refl, sym, ap, ◌∙◌, ℕ, suc, ◌+◌, ◌*◌, nat_le, nat_lt, Bool, true, false, cond, List, ◌++◌, length, drop, big_bytes}
+use Rattle.sbp_world.proofs.Words.Std.{◌≡◌, refl, sym, ap, ◌∙◌, ℕ, suc, ◌*◌, nat_le, nat_lt, Bool, true, false, cond, List, ◌++◌, length, drop, big_bytes}
 use Rattle.sbp_world.proofs.Words.Wire.{Moment, Cmd}
 use Rattle.sbp_world.proofs.Words.Initiator.{SlotMemory, start, command_bytes, pointer_high, Null, At, HoldsOrb, Kept, orb_of, table_bytes, Asked}
 use Rattle.sbp_world.proofs.Words.Laws.{command_at, is_dummy, place_at, asked_for, id_as_prepared, next_high, next_low, orb_held, with_format}

@@ -1,6 +1,6 @@
 -- A slot that no ORB was prepared in is free.
 use Rattle.sbp_world.proofs.Words.Std.{◌≡◌, refl, sym, ◌∙◌, ℕ, zero, suc, Bool, true, false, cond, List, [], ◌∷◌, map, replicate, Option, Some, None, Result, Ok, Err}
-use Rattle.sbp_world.proofs.Words.Initiator.{Memory, slot_of, StatusBlock, ListFault, Linking, PresentList, SlotState, Slot, Asked, Prepare, LinkLow, LinkHigh, MakeDummy, TakeStatus, DropList, FreeAll, Pin, Unpin, TryWrite, Fill, SetQuad, left_by, run, SlotTable, freed, is_free, is_over, may_prepare, new_table, released, rested, slot_in, state_after, unused, waiting, waits_in, TicketParts}
+use Rattle.sbp_world.proofs.Words.Initiator.{Memory, slot_of, StatusBlock, ListFault, Linking, PresentList, SlotState, Slot, Asked, Prepare, LinkLow, LinkHigh, MakeDummy, TakeStatus, DropList, FreeAll, Pin, Unpin, TryWrite, Fill, SetQuad, left_by, run, SlotTable, freed, is_free, is_over, may_prepare, released, rested, slot_in, state_after, unused, waiting, waits_in, TicketParts}
 use Rattle.std.proofs.Common.{slice_set}
 use Rattle.orb_list.specs.declared.list.Link.TheVariants as links
 use Rattle.orb_list.specs.declared.slot.SlotState.TheVariants as states

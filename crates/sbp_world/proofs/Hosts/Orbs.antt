@@ -2,7 +2,7 @@
 use Rattle.sbp_world.proofs.Words.Std.{arith, ◌≡◌, refl, sym, ap, subst, ◌∙◌, ℕ, ◌*◌, ◌<◌, Bool, List, length, take, Option, Some, None, take_all}
 use Rattle.sbp_world.proofs.Words.Wire.{Moment}
 use Rattle.sbp_world.proofs.Words.Initiator.{read_step, IsWhole, Memory, slot_at, start, node_at, command_orb, CommandOrb, SlotState, HoldsOrb, IfHoldsOrb, Kept, kept_in, table_bytes, Asked, run, SlotTable, slot_in, unused, TicketParts, Turn, own_rom, InitiatorState, after, ReadsAfter, held_after, AreSlotsOf, slot_calls_after}
-use Rattle.sbp_world.proofs.Words.Laws.{buffer_in, Orb, Row, prepared_in, slots, used, vacant}
+use Rattle.sbp_world.proofs.Words.Laws.{buffer_in, Orb, prepared_in, slots, used, vacant}
 use Rattle.sbp_world.proofs.Words.World.{AreRows, LastFits, HoldsOrbs, OrbsLaw, StandsIn, orb_for, name, name_in, row, row_by}
 use Rattle.std.proofs.Common.{slice_index_or}
 use Rattle.std.proofs.lemmas.List.{get_or-map}

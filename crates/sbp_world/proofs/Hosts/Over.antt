@@ -1,6 +1,6 @@
 -- A slot is over by the run terms exactly where it is by its table.
 use Rattle.sbp_world.proofs.Words.Std.{arith, ◌≡◌, refl, sym, ◌∙◌, ap, subst, ℕ, suc, ◌+◌, ◌-◌, ◌<◌, ◌==◌, ◌&&◌, ◌||◌, not, nat_lt, Bool, true, false, cond, List, [], ◌∷◌, length, map, Option, Some, None, nat_tests}
-use Rattle.sbp_world.proofs.Words.Initiator.{Link, PresentList, SlotState, Slot, TicketParts, is_ticket, SlotTable, slot_in, is_done, next_is_linked, over_for, over_in, released}
+use Rattle.sbp_world.proofs.Words.Initiator.{Link, PresentList, SlotState, Slot, TicketParts, is_ticket, SlotTable, slot_in, is_done, next_is_linked, over_for, released}
 use Rattle.sbp_world.proofs.Words.Laws.{Row, vacant, used, is_over_by, is_pinned}
 use Rattle.sbp_world.proofs.Words.World.{name, name_in, row, row_by, ListTerms, over_at, LastFits, IfLast, StateFits, linked_by, ListFits, IfList, IfHeld, Fits, Frees}
 use Rattle.orb_list.specs.declared.list.Link.TheVariants as links

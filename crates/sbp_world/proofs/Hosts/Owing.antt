@@ -84,14 +84,14 @@ row_again true true true true e f = cc
 row_again true true false a false f = cc
 row_again true true false a true f = refl
 
-judged_there : (later past : List Moment) (s : ℕ) (cause : Cause) → AreJudged (later ++ said (notes.Ignored s cause) ∷ past) → (packet : Sending) → (terms past).sent s ≡ Some packet → may_ignore_by (row_of (facts_of (terms past) packet)) cause ≡ true
+pub judged_there : (later past : List Moment) (s : ℕ) (cause : Cause) → AreJudged (later ++ said (notes.Ignored s cause) ∷ past) → (packet : Sending) → (terms past).sent s ≡ Some packet → may_ignore_by (row_of (facts_of (terms past) packet)) cause ≡ true
 judged_there [] past s cause h = h.0
 judged_there (said (notes.Got other) ∷ later) past s cause h = judged_there later past s cause h.1
 judged_there (said (notes.Ignored other reason) ∷ later) past s cause h = judged_there later past s cause h.1
 judged_there (said note ∷ later) past s cause h = judged_there later past s cause h
 judged_there (asked line event ∷ later) past s cause h = judged_there later past s cause h
 
-repeats_write : (t : Terms) (packet : Sending) (label : ℕ) (kind : Kind) → part_of packet.bytes ≡ request label kind → may_ignore_by (row_of (facts_of t packet)) causes.Again ≡ true → is_write packet.bytes ≡ true
+pub repeats_write : (t : Terms) (packet : Sending) (label : ℕ) (kind : Kind) → part_of packet.bytes ≡ request label kind → may_ignore_by (row_of (facts_of t packet)) causes.Again ≡ true → is_write packet.bytes ≡ true
 repeats_write t packet label kind part e =
     let f = facts_of t packet in
     let again : f.is_repeated ≡ true = row_again f.is_current f.is_for_node f.is_response f.is_awaited f.is_repeated e in
@@ -108,44 +108,32 @@ pub record GotBehind (all : List Moment) (reply ask : ℕ) (asks : Sending) : Ty
   pub below : ask ≤ (terms past).count
   pub next : reply ≡ (terms past).count + 1
 
-read_kind : (p : Packet) (address count label : ℕ) (kind : Kind) → IsBlockRead p address count → part_in p ≡ request label kind → is_same_kind kind writing ≡ false
+pub read_kind : (p : Packet) (address count label : ℕ) (kind : Kind) → IsBlockRead p address count → part_in p ≡ request label kind → is_same_kind kind writing ≡ false
 read_kind p address count label kind b e = by_kind (sym (ap part_in b.is) ∙ e)
   where
     by_kind : request b.header.label reading_block ≡ request label kind → is_same_kind kind writing ≡ false
     by_kind f = let is : reading_block ≡ kind = cc in sym (ap (λ k. is_same_kind k writing) is)
 
-module _ (all : List Moment) (i : ℕ) (wire : OfWire all) (writes : AllWrites all i) (reply ask : ℕ) (access : Access) (bytes : List ℕ) (r : IsResponse all i reply ask access bytes) where
-  pub replied : IsReply ((terms all).sent reply) ((terms all).sent ask)
-  replied = wire.facts.replied reply ask r.answers
+-- An initiator answers a packet with one that was not injected.
+pub record IsAnswer (all : List Moment) (i reply ask : ℕ) : Type 0 where
+  pub own : (packet : Sending) → (terms all).sent reply ≡ Some packet → packet.injected ≡ false
+  pub answers : (terms all).answers reply ≡ Some ask
+  pub of_initiator : receiver_in ((terms all).sent ask) ≡ Some (suc i)
 
-  abbrev q : Sending
-  q = replied.reply
+module _ (all : List Moment) (i : ℕ) (wire : OfWire all) (reply ask : ℕ) (r : IsAnswer all i reply ask) where
+  pub reply_of : IsReply ((terms all).sent reply) ((terms all).sent ask)
+  reply_of = wire.facts.replied reply ask r.answers
 
-  tell : IsTelling q bytes
-  tell = telling q bytes (sym (ap (λ o. answer_in (packet_in o)) replied.reply_is) ∙ r.tells)
-
-  pub asks : IsAsking replied.asking access
-  asks = asking replied.asking access (sym (ap (λ o. access_in (packet_in o)) replied.asking_is) ∙ r.asks)
-
-  asks_part : part_in asks.spells ≡ request replied.label replied.kind
-  asks_part = sym (part_read replied.asking.bytes asks.spells asks.read) ∙ replied.asking_part
-
-  tells_part : part_in tell.spells ≡ response replied.label replied.kind
-  tells_part = sym (part_read q.bytes tell.spells tell.read) ∙ replied.reply_part
-
-  pub block : IsBlockRead asks.spells access.offset access.count
-  block = block_read_of asks.spells access replied.label replied.kind asks.asks r.reads r.block asks_part (tells_read tell.spells replied.label replied.kind bytes tell.tells tells_part)
-
-  pub to_it : replied.asking.to ≡ suc i
-  to_it = same_Some replied.asking.to (suc i) (sym (ap receiver_in replied.asking_is) ∙ r.of_initiator)
+  abbrev pub answering : Sending
+  answering = reply_of.reply
 
   -- ---- where the response stands
 
-  sent : WasSent all reply q
-  sent = sent_moment all reply q replied.reply_is
+  pub sent : WasSent all reply answering
+  sent = sent_moment all reply answering reply_of.reply_is
 
   abbrev here : List Moment
-  here = now sent.before reply q.generation q.from q.to q.bytes
+  here = now sent.before reply answering.generation answering.from answering.to answering.bytes
 
   serials_here : SerialsCount here
   serials_here = serials_from sent.later here (subst SerialsCount (sym sent.is) wire.laws.serials)
@@ -153,26 +141,26 @@ module _ (all : List Moment) (i : ℕ) (wire : OfWire all) (writes : AllWrites a
   answered : AreAnswered here
   answered = answered_from sent.later here (subst AreAnswered (sym sent.is) wire.laws.answered)
 
-  there : IsOwedThere sent.before
-  there = stands_there sent.before reply q.generation q.from q.to q.bytes answered (sent.injected ∙ r.own q replied.reply_is) replied.label replied.kind replied.reply_part
+  pub there : IsOwedThere sent.before
+  there = stands_there sent.before reply answering.generation answering.from answering.to answering.bytes answered (sent.injected ∙ r.own answering reply_of.reply_is) reply_of.label reply_of.kind reply_of.reply_part
 
-  abbrev owed : Owed
+  abbrev pub owed : Owed
   owed = there.owed
 
   owed_is : owed.serial ≡ ask
   owed_is =
       let remain : Remains here all = subst (Remains here) sent.is (remains sent.later here (subst SerialsCount (sym sent.is) wire.laws.serials)) in
       let serial : reply ≡ (terms sent.before).count + 1 = serials_here.0 in
-      let counted : (terms here).count ≡ (terms sent.before).count + 1 = count_now sent.before reply q.generation q.from q.to q.bytes in
-      let first = answers_now sent.before reply q.generation q.from q.to q.bytes owed there.owes in
+      let counted : (terms here).count ≡ (terms sent.before).count + 1 = count_now sent.before reply answering.generation answering.from answering.to answering.bytes in
+      let first = answers_now sent.before reply answering.generation answering.from answering.to answering.bytes owed there.owes in
       same_Some owed.serial ask (sym first ∙ (sym (remain.answers reply (omega arith)) ∙ r.answers))
 
-  owing : IsOwed (terms sent.before) owed (record { generation = q.generation; from = q.from; to = q.to; bytes = q.bytes; injected = (terms sent.before).injected reply })
-  owing = subst (λ o. IsSentFor o (terms sent.before) (record { generation = q.generation; from = q.from; to = q.to; bytes = q.bytes; injected = (terms sent.before).injected reply })) there.owes answered.0
+  pub owing : IsOwed (terms sent.before) owed (record { generation = answering.generation; from = answering.from; to = answering.to; bytes = answering.bytes; injected = (terms sent.before).injected reply })
+  owing = subst (λ o. IsSentFor o (terms sent.before) (record { generation = answering.generation; from = answering.from; to = answering.to; bytes = answering.bytes; injected = (terms sent.before).injected reply })) there.owes answered.0
 
   -- ---- the request, as it was judged
 
-  abbrev past : List Moment
+  abbrev pub past : List Moment
   past = there.stands.past
 
   abbrev effects : List Note
@@ -181,13 +169,13 @@ module _ (all : List Moment) (i : ℕ) (wire : OfWire all) (writes : AllWrites a
   abbrev note : Note
   note = note_of owed.serial owed.cause
 
-  abbrev later : List Moment
-  later = sent.later ++ said (notes.Sent reply q.generation q.from q.to q.bytes) ∷ map said effects
+  abbrev pub later : List Moment
+  later = sent.later ++ said (notes.Sent reply answering.generation answering.from answering.to answering.bytes) ∷ map said effects
 
   position : later ++ said note ∷ past ≡ all
   position =
-      append_assoc sent.later (said (notes.Sent reply q.generation q.from q.to q.bytes) ∷ map said effects) (said note ∷ past)
-      ∙ (ap (λ ms. sent.later ++ said (notes.Sent reply q.generation q.from q.to q.bytes) ∷ ms) (sym there.stands.is) ∙ sent.is)
+      append_assoc sent.later (said (notes.Sent reply answering.generation answering.from answering.to answering.bytes) ∷ map said effects) (said note ∷ past)
+      ∙ (ap (λ ms. sent.later ++ said (notes.Sent reply answering.generation answering.from answering.to answering.bytes) ∷ ms) (sym there.stands.is) ∙ sent.is)
 
   behind : (later ++ said note ∷ []) ++ past ≡ all
   behind = append_assoc later (said note ∷ []) past ∙ position
@@ -211,51 +199,103 @@ module _ (all : List Moment) (i : ℕ) (wire : OfWire all) (writes : AllWrites a
   below_past : owed.serial ≤ (terms past).count
   below_past = sent_below past owed.serial owing.asking (serials_from (later ++ said note ∷ []) past serials_all) was_owed
 
-  was_sent : (terms past).sent owed.serial ≡ Some replied.asking
-  was_sent = sym (remain_past.sent owed.serial below_past) ∙ (ap (λ n. (terms all).sent n) owed_is ∙ replied.asking_is)
+  pub was_sent : (terms past).sent owed.serial ≡ Some reply_of.asking
+  was_sent = sym (remain_past.sent owed.serial below_past) ∙ (ap (λ n. (terms all).sent n) owed_is ∙ reply_of.asking_is)
+
+  -- ---- how it was judged
+
+  abbrev pub given : ℕ
+  given = (terms sent.before).given (between owing.asking owing.asking.from owing.asking.to owing.responds.label)
+
+  pub stated : (cause : Cause) → owed.cause ≡ Some cause → is_stated (Some cause) given (rcode_of answering.bytes) ≡ true
+  stated cause e = sym (ap (λ c. is_stated c given (rcode_of answering.bytes)) e) ∙ owing.stated
+
+  pub ignored_there : (cause : Cause) → owed.cause ≡ Some cause → later ++ said (notes.Ignored owed.serial cause) ∷ past ≡ all
+  ignored_there cause e = ap (λ c. later ++ said (note_of owed.serial c) ∷ past) (sym e) ∙ position
+
+  -- it was got, where it was not ignored
+  module _ (none : owed.cause ≡ None) where
+    got_note : note ≡ notes.Got ask
+    got_note = ap (λ c. note_of owed.serial c) none ∙ ap (λ n. notes.Got n) owed_is
+
+    pub behind_got : GotBehind all reply ask reply_of.asking
+    behind_got = record {
+      later = later;
+      past = past;
+      is = ap (λ x. later ++ said x ∷ past) (sym got_note) ∙ position;
+      was = subst (λ n. (terms past).sent n ≡ Some reply_of.asking) owed_is was_sent;
+      below = subst (λ n. n ≤ (terms past).count) owed_is below_past;
+      next = next_serial past ask effects there.stands.plain reply answering.generation answering.from answering.to answering.bytes
+          (subst (λ ms. SerialsCount (said (notes.Sent reply answering.generation answering.from answering.to answering.bytes) ∷ ms)) (there.stands.is ∙ ap (λ x. map said effects ++ said x ∷ past) got_note) serials_here);
+    }
+
+pub cause_none : (c : Option Cause) → ((cause : Cause) → c ≡ Some cause → ⊥) → c ≡ None
+cause_none None h = refl
+cause_none (Some cause) h = absurd (h cause refl)
+
+module _ (all : List Moment) (i : ℕ) (wire : OfWire all) (writes : AllWrites all i) (reply ask : ℕ) (access : Access) (bytes : List ℕ) (r : IsResponse all i reply ask access bytes) where
+  abbrev as_answer : IsAnswer all i reply ask
+  as_answer = record { own = r.own; answers = r.answers; of_initiator = r.of_initiator }
+
+  abbrev pub replied : IsReply ((terms all).sent reply) ((terms all).sent ask)
+  replied = reply_of all i wire reply ask as_answer
+
+  abbrev q : Sending
+  q = replied.reply
+
+  tell : IsTelling q bytes
+  tell = telling q bytes (sym (ap (λ o. answer_in (packet_in o)) replied.reply_is) ∙ r.tells)
+
+  pub asks : IsAsking replied.asking access
+  asks = asking replied.asking access (sym (ap (λ o. access_in (packet_in o)) replied.asking_is) ∙ r.asks)
+
+  asks_part : part_in asks.spells ≡ request replied.label replied.kind
+  asks_part = sym (part_read replied.asking.bytes asks.spells asks.read) ∙ replied.asking_part
+
+  tells_part : part_in tell.spells ≡ response replied.label replied.kind
+  tells_part = sym (part_read q.bytes tell.spells tell.read) ∙ replied.reply_part
+
+  pub block : IsBlockRead asks.spells access.offset access.count
+  block = block_read_of asks.spells access replied.label replied.kind asks.asks r.reads r.block asks_part (tells_read tell.spells replied.label replied.kind bytes tell.tells tells_part)
+
+  pub to_it : replied.asking.to ≡ suc i
+  to_it = same_Some replied.asking.to (suc i) (sym (ap receiver_in replied.asking_is) ∙ r.of_initiator)
 
   -- ---- it was got
 
-  abbrev given : ℕ
-  given = (terms sent.before).given (between owing.asking owing.asking.from owing.asking.to owing.responds.label)
+  abbrev was : Owed
+  was = owed all i wire reply ask as_answer
 
-  stated : (cause : Cause) → owed.cause ≡ Some cause → is_stated (Some cause) given 0 ≡ true
-  stated cause e =
-      sym (ap (λ n. is_stated (Some cause) given n) (complete_by q.bytes tell.spells bytes (spelled q.bytes tell.spells tell.read) tell.tells))
-      ∙ (sym (ap (λ c. is_stated c given (rcode_of q.bytes)) e) ∙ owing.stated)
+  abbrev before : List Moment
+  before = past all i wire reply ask as_answer
 
-  ignored_there : (cause : Cause) → owed.cause ≡ Some cause → later ++ said (notes.Ignored owed.serial cause) ∷ past ≡ all
-  ignored_there cause e = ap (λ c. later ++ said (note_of owed.serial c) ∷ past) (sym e) ∙ position
+  abbrev behind_it : List Moment
+  behind_it = later all i wire reply ask as_answer
 
-  not_ignored : (cause : Cause) → owed.cause ≡ Some cause → ⊥
-  not_ignored causes.Generation e = false≢true (stated causes.Generation e)
-  not_ignored causes.Label e = false≢true (stated causes.Label e)
-  not_ignored causes.Grammar e = false≢true (stated causes.Grammar e)
-  not_ignored causes.Source e = false≢true (stated causes.Source e)
-  not_ignored causes.Login e = false≢true (stated causes.Login e)
+  abbrev gave : ℕ
+  gave = given all i wire reply ask as_answer
+
+  stated_zero : (cause : Cause) → was.cause ≡ Some cause → is_stated (Some cause) gave 0 ≡ true
+  stated_zero cause e =
+      sym (ap (λ n. is_stated (Some cause) gave n) (complete_by q.bytes tell.spells bytes (spelled q.bytes tell.spells tell.read) tell.tells)) ∙ stated all i wire reply ask as_answer cause e
+
+  there_ignored : (cause : Cause) → was.cause ≡ Some cause → behind_it ++ said (notes.Ignored was.serial cause) ∷ before ≡ all
+  there_ignored cause e = ignored_there all i wire reply ask as_answer cause e
+
+  not_ignored : (cause : Cause) → was.cause ≡ Some cause → ⊥
+  not_ignored causes.Generation e = false≢true (stated_zero causes.Generation e)
+  not_ignored causes.Label e = false≢true (stated_zero causes.Label e)
+  not_ignored causes.Grammar e = false≢true (stated_zero causes.Grammar e)
+  not_ignored causes.Source e = false≢true (stated_zero causes.Source e)
+  not_ignored causes.Login e = false≢true (stated_zero causes.Login e)
   not_ignored causes.Slot e =
-      let w = writes_there later past i owed.serial (subst (λ ms. AllWrites ms i) (sym (ignored_there causes.Slot e)) writes) in
-      false≢true (sym r.reads ∙ w replied.asking was_sent to_it asks.spells asks.read access asks.asks)
+      let w = writes_there behind_it before i was.serial (subst (λ ms. AllWrites ms i) (sym (there_ignored causes.Slot e)) writes) in
+      false≢true (sym r.reads ∙ w replied.asking (was_sent all i wire reply ask as_answer) to_it asks.spells asks.read access asks.asks)
   not_ignored causes.Again e =
-      let j = judged_there later past owed.serial causes.Again (subst AreJudged (sym (ignored_there causes.Again e)) wire.laws.judged) replied.asking was_sent in
-      let w = repeats_write (terms past) replied.asking replied.label replied.kind replied.asking_part j in
+      let j = judged_there behind_it before was.serial causes.Again (subst AreJudged (sym (there_ignored causes.Again e)) wire.laws.judged) replied.asking (was_sent all i wire reply ask as_answer) in
+      let w = repeats_write (terms before) replied.asking replied.label replied.kind replied.asking_part j in
       let k = asking_read replied.asking.bytes asks.spells replied.label replied.kind asks.read asks_part in
       false≢true (sym (read_kind asks.spells access.offset access.count replied.label replied.kind block asks_part) ∙ (sym k.writes ∙ w))
 
-  no_cause : (c : Option Cause) → owed.cause ≡ c → owed.cause ≡ None
-  no_cause None e = e
-  no_cause (Some cause) e = absurd (not_ignored cause e)
-
-  got_note : note ≡ notes.Got ask
-  got_note = ap (λ c. note_of owed.serial c) (no_cause owed.cause refl) ∙ ap (λ n. notes.Got n) owed_is
-
   pub got_behind : GotBehind all reply ask replied.asking
-  got_behind = record {
-    later = later;
-    past = past;
-    is = ap (λ x. later ++ said x ∷ past) (sym got_note) ∙ position;
-    was = subst (λ n. (terms past).sent n ≡ Some replied.asking) owed_is was_sent;
-    below = subst (λ n. n ≤ (terms past).count) owed_is below_past;
-    next = next_serial past ask effects there.stands.plain reply q.generation q.from q.to q.bytes
-        (subst (λ ms. SerialsCount (said (notes.Sent reply q.generation q.from q.to q.bytes) ∷ ms)) (there.stands.is ∙ ap (λ x. map said effects ++ said x ∷ past) got_note) serials_here);
-  }
+  got_behind = behind_got all i wire reply ask as_answer (cause_none was.cause not_ignored)

@@ -2,7 +2,7 @@
 use Rattle.sbp_world.proofs.Words.Std.{arith, ◌≡◌, refl, sym, ◌∙◌, ap, subst, ℕ, suc, ◌<◌, ◌≤◌, ◌^◌, List, [], ◌∷◌, ◌++◌, map, length, replicate, Option, Some, Result, Ok, Err, Bool, length-replicate, length-take}
 use Rattle.sbp_world.proofs.Words.Wire.{reading, Access, access_of, empty_outbox, Moment, said, of_request, terms}
 use Rattle.sbp_world.proofs.Words.Target.{Told}
-use Rattle.sbp_world.proofs.Words.Initiator.{judged, read_at, read_step, Memory, Rcode, Spot, Payload, InitiatorState, receive_step}
+use Rattle.sbp_world.proofs.Words.Initiator.{judged, read_at, read_step, Memory, Rcode, Spot, Answer, Payload, InitiatorState, receive_step}
 use Rattle.sbp_world.proofs.Words.Laws.{answer_in, id_of, spelled_by, host_reply}
 use Rattle.sbp_world.proofs.Words.World.{delivered, Scene, initiator_at, AllSend, history, HoldsOrbs, IsReadBy, IsReadOf, payload_of}
 use Rattle.bus_memory.specs.declared.access.Access.TheVariants.{Read}
@@ -11,6 +11,7 @@ use Rattle.sbp_laws.specs.CarriedBytes.{bytes_in}
 use Rattle.sbp_laws.specs.Served.{Reply}
 use Rattle.sbp_world.proofs.Wire.Holding.{Sound}
 use Rattle.sbp_world.specs.Hosts.Carrying.{IsServed}
+use Rattle.sbp_world.proofs.FitInitiator.Memory.{read_long}
 use Rattle.sbp_world.proofs.Hosts.Answering.{answer, asks_block}
 use Rattle.sbp_world.proofs.Hosts.AnsweringBlocks.{block_answered}
 use Rattle.sbp_world.proofs.Hosts.AnsweringSends as sends
@@ -89,6 +90,10 @@ module _ {past : List Moment} {lines : ℕ} (s : Scene) (sound : Sound past line
       let e = tells_all (sym same_code ∙ complete) in
       e ∙ ap (λ x. Payload x) (sym (ap bytes_in e))
 
+  sized_payload : (host_reply H i g.access).rcode ≡ 0 → length (payload_of leaving) ≡ g.access.count
+  sized_payload complete =
+      ap (λ (a : Answer). length (bytes_in a)) (tells_all (sym same_code ∙ complete)) ∙ (read_long old.lists.memory g.access.offset out ∙ length-replicate g.access.count 0)
+
   served : (payload : List ℕ) → answer_in (spelled_by (reading leaving)) ≡ Payload payload → IsServed H i g.access payload
   served payload e =
       let zero : reply.rcode ≡ 0 = completes g.sent.bytes g.packet read (sends.are_bytes s sound i inside serial again told g reply packets_are) own (sends.small s sound i inside serial again told g reply packets_are) g.access.offset g.access.count block reply.rcode reply.given payload few e in
@@ -105,6 +110,7 @@ module _ {past : List Moment} {lines : ℕ} (s : Scene) (sound : Sound past line
     is = sends.shows s sound i inside serial again told g reply packets_are;
     served = served;
     tells = tells_payload;
+    sized = sized_payload;
     reads =
         sends.is_read_with s sound i inside serial again told g reply packets_are
         (λ before payload. (before ≡ map said (sends.effects s sound i inside serial again told g reply packets_are) ++ said (notes.Got serial) ∷ H) × (payload ≡ payload_of leaving)) (refl, refl);

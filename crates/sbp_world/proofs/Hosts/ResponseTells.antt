@@ -1,5 +1,5 @@
 -- What the run terms say of a read of a window: its rcode, and that the window is open where the read is complete.
-use Rattle.sbp_world.proofs.Words.Std.{arith, ◌≡◌, refl, sym, ap, ◌∙◌, ℕ, suc, ◌<◌, ◌^◌, ◌==◌, not, Bool, true, false, cond, List, [], ◌∷◌, Some}
+use Rattle.sbp_world.proofs.Words.Std.{arith, ◌≡◌, refl, sym, ap, ◌∙◌, ℕ, suc, ◌<◌, ◌^◌, ◌==◌, not, Bool, true, false, cond, List, [], ◌∷◌, Some, false≢true, true≢false}
 use Rattle.sbp_world.proofs.Words.Wire.{Access, first_or, window_rcode, Moment}
 use Rattle.sbp_world.proofs.Words.Initiator.{Window, is_fifo, window_at}
 use Rattle.sbp_world.proofs.Words.Laws.{rom_size, has_direction, host_reply, is_fifo_write, is_open, lies_inside, window_facts}
@@ -17,6 +17,15 @@ small_code false false true inside has = omega arith
 small_code false false false false has = omega arith
 small_code false false false true false = omega arith
 small_code false false false true true = omega arith
+
+-- no row holds
+pub code_zero : (lock empty fifo inside has : Bool) → lock ≡ false → empty ≡ false → fifo ≡ false → inside ≡ true → has ≡ true → code lock empty fifo inside has ≡ 0
+code_zero true empty fifo inside has a b c d g = absurd (true≢false a)
+code_zero false true fifo inside has a b c d g = absurd (true≢false b)
+code_zero false false true inside has a b c d g = absurd (true≢false c)
+code_zero false false false false has a b c d g = absurd (false≢true d)
+code_zero false false false true false a b c d g = absurd (false≢true g)
+code_zero false false false true true a b c d g = refl
 
 pub some : (n : ℕ) → suc n ≡ 0 → ⊥
 some n e = omega arith

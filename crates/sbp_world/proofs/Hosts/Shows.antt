@@ -1,7 +1,7 @@
 -- The labels of the initiators of a world, by its history: as a world stands, as a packet is judged, and as a transaction times out.
 use Rattle.sbp_world.proofs.Words.Std.{arith, ◌≡◌, refl, sym, ◌∙◌, ap, subst, ℕ, suc, ◌<◌, ◌≤◌, ◌==◌, nat_eq, not, Bool, true, false, cond, ◌||◌, List, ◌∷◌, length, map, Option, Some, None, Result, Ok, Err, nat_tests, get_or-map, upd}
-use Rattle.sbp_world.proofs.Words.Wire.{LabelParts, bare, bare_after, bare_finding, bare_place, bare_purpose, bare_result, may_ignore, expire, expiring, moved, IsAwaited, IsOf, awaits, shape, shape_of, Due, Node, Wire, as_sending, first_note, id_for, transaction, ReplyKind, Stale, Finding, Layer, expiring_step, judging_step, of_again, of_generation, of_grammar, of_label, of_request, of_response, is_owned_by, or_else, owned_place, shown_in, PeerPlace, no_peer, peer_of, state_for, place_at, Sent, found_sent, is_flying, deliver_step, Request, id_of, topology_at, judged_note, find, empty_outbox, Moment, said, Kind, Sending, Transaction, Held, Terms, free, rests, terms, waits, Cause, Judged}
-use Rattle.sbp_world.proofs.Words.Target.{NodeState, expired}
+use Rattle.sbp_world.proofs.Words.Wire.{LabelParts, bare, bare_after, bare_finding, bare_place, bare_purpose, bare_result, may_ignore, expire, expiring, moved, IsAwaited, IsOf, awaits, shape, shape_of, Due, Node, Wire, as_sending, first_note, id_for, transaction, ReplyKind, Stale, Finding, Layer, expiring_step, judging_step, of_again, of_generation, of_grammar, of_label, of_request, of_response, is_owned_by, or_else, owned_place, shown_in, PeerPlace, no_peer, peer_of, state_for, place_at, Sent, found_sent, is_flying, deliver_step, Request, id_of, topology_at, judged_note, find, empty_outbox, Moment, said, Kind, Sending, Transaction, Held, Terms, free, rests, terms, waits, Cause, Judged, is_to}
+use Rattle.sbp_world.proofs.Words.Target.{expired}
 use Rattle.sbp_world.proofs.Words.Initiator.{expire_step, receive_step, received, Purpose, InitiatorState}
 use Rattle.sbp_world.proofs.Words.World.{marked, target_left, WorldState, initiator_at, with_note, Stands, StandsAt, layer_in, layers_of, history}
 use Rattle.std.proofs.Common.{is_ok, position, slice_index_or}
@@ -59,6 +59,7 @@ shown_by wire h i layer own past is target id =
     subst (λ ms. IsShown ms i target layer) is (record {
       generation = sym g;
       named = ap (λ x. t.ids x 0) (sym g) ∙ row;
+      own = ap (λ x. t.ids x (suc i)) (sym g) ∙ (sym node.id ∙ ap (λ (l : Node). l.node) own);
       states = λ number.
           ap shape (sym (state_bare layer target number))
           ∙ ap (λ (l : Node). shape (state_for l.peers target number)) (sym own)
@@ -91,6 +92,7 @@ shown_same : (past now : List Moment) (i target : ℕ) (layer : Layer Purpose) �
 shown_same past now i target layer held generation ids h = record {
   generation = h.generation ∙ ap (λ (g : ℕ → ℕ). g (suc i)) (sym generation);
   named = ap (λ (f : ℕ → ℕ → ℕ). f layer.generation 0) ids ∙ h.named;
+  own = ap (λ (f : ℕ → ℕ → ℕ). f layer.generation (suc i)) ids ∙ h.own;
   states = λ number. h.states number ∙ ap (λ (x : Transaction → Held). shape_of (x (transaction layer.generation (suc i) 0 number))) (sym held);
 }
 
@@ -164,10 +166,15 @@ module _ {past : List Moment} {lines : ℕ} (w : WorldState) (h : Stands past w)
   apart_there generation one other e =
       goes_on.apart h.wire generation one other h.reached (ap (λ ms. (terms ms).ids generation one) h.is.past_is ∙ e ∙ sym (ap (λ ms. (terms ms).ids generation other) h.is.past_is))
 
+  goes_there : (as_sending sent).injected ≡ false → is_to sent.bytes ((terms (history w past)).ids sent.generation sent.to) ≡ true
+  goes_there unforged =
+      subst (λ ms. is_to sent.bytes ((terms ms).ids sent.generation sent.to) ≡ true) h.is.past_is
+      (((holds h.wire h.reached).facts.honest serial (as_sending sent) (ap (λ ms. (terms ms).sent serial) h.is.past_is ∙ was_sent w h serial sent found)).is_for unforged)
+
   pub arriving : Arriving past serial sent w
   arriving = record {
     away = λ i e packet f. ap (λ (q : Sending). nat_eq q.to (suc i)) (packet_is packet f) ∙ e;
-    heard = λ i e. record { packet = as_sending sent; sent = was_sent w h serial sent found; generation_is = refl; bytes_are = refl; to_is = e; source = of_packet.source; apart = apart_there };
+    heard = λ i e. record { packet = as_sending sent; sent = was_sent w h serial sent found; generation_is = refl; bytes_are = refl; to_is = e; source = of_packet.source; goes = goes_there; apart = apart_there };
     now = λ i inside. shown_now w h nodes i inside;
     shown = arriving_shown;
   }

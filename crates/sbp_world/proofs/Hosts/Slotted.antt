@@ -44,7 +44,7 @@ module _ (ready : Bool) where
         sent = λ serial generation from to bytes past i s n h. record { orbs = c.sent serial generation from to bytes past i s n h.orbs; writes = h.writes };
         hears = λ serial generation bytes past i s heard shown after h.
             tells_on (said (judged_note serial (receive_step generation bytes empty_outbox s).0) ∷ past) i (receive_step generation bytes empty_outbox s).1 (own.receives generation bytes empty_outbox s tt)
-            (c.hears serial generation bytes past i s heard shown after h.orbs) (heard_writes serial generation bytes past i s heard h.writes);
+            (c.hears serial generation bytes past i s heard shown after h.orbs) (heard_writes serial generation bytes past i s heard shown h.writes);
         expires = λ serial label past i s shown h.
             tells_on (said (notes.TimedOut serial) ∷ past) i (expire_step label empty_outbox s).1 (own.expires label empty_outbox s tt) (c.expires serial label past i s shown h.orbs) h.writes;
         stale = λ label past i s e h. record { orbs = c.stale label past i s e h.orbs; writes = h.writes };

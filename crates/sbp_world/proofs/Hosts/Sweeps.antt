@@ -1,8 +1,8 @@
 -- Slots whose ORBs are over become free, in the table and in the run terms.
 use Rattle.sbp_world.proofs.Words.Std.{arith, ◌≡◌, refl, sym, ◌∙◌, ap, subst, ℕ, suc, ◌<◌, ◌&&◌, ◌||◌, not, nat_lt, Bool, true, false, cond, List, [], ◌∷◌, length, map, Option, Some, None, length-map}
 use Rattle.sbp_world.proofs.Words.Wire.{Moment}
-use Rattle.sbp_world.proofs.Words.Initiator.{PresentList, SlotState, Slot, TicketParts, is_ticket, SlotTable, slot_in, unused, is_free, free_state, next_is_linked, over_for, over_in, is_over, released, waiting}
-use Rattle.sbp_world.proofs.Words.Laws.{Orb, TakenStatus, Row, vacant, used, resting}
+use Rattle.sbp_world.proofs.Words.Initiator.{PresentList, SlotState, Slot, TicketParts, is_ticket, SlotTable, slot_in, unused, is_free, next_is_linked, over_in, is_over, released, waiting}
+use Rattle.sbp_world.proofs.Words.Laws.{TakenStatus, Row}
 use Rattle.sbp_world.proofs.Words.World.{name_in, row, ListTerms, terms_at, over_at, IfLast, StateFits, Waits, IfList, IfHeld, Fits, Frees, over_now, Swept, Rows}
 use Rattle.std.proofs.lemmas.List.{get_or-map}
 use Rattle.orb_list.specs.declared.slot.SlotState.TheVariants as states

@@ -1,7 +1,7 @@
 -- An action that is done tells the notes that the run asks for.
 use Rattle.sbp_world.proofs.Words.Std.{arith, ◌≡◌, refl, sym, ◌∙◌, ap, subst, ℕ, suc, ◌+◌, ◌-◌, ◌==◌, not, is_some, Bool, true, false, cond, List, [], ◌∷◌, ◌++◌, Option, Some, None, Ok, append-nil, not-false}
 use Rattle.sbp_world.proofs.Words.Wire.{Label, Layer, Moment, OutboxState, buffer_of, Action, Cmd, Side}
-use Rattle.sbp_world.proofs.Words.Initiator.{Link, Linking, PresentList, SlotTable, find_in, list_number, may_prepare, next_ticket, orb_number, waits_high, waits_low, TicketParts, ticket, Demand, Purpose, InitiatorState, high_lists, low_lists, stepped, asked_by, prepared_as, put_lists, refusal, rows_of, no_marks, Turn, told, act_step, append_step, asked_as, asked_for, demand_of, demanded_as, done_step, dummy_for, facts_with, judged_as, link_as, link_step, login_id, low_as, low_step, put_as, put_step, ring_for, ring_step, own}
+use Rattle.sbp_world.proofs.Words.Initiator.{Link, Linking, PresentList, find_in, list_number, may_prepare, next_ticket, orb_number, waits_high, waits_low, TicketParts, ticket, Demand, Purpose, InitiatorState, high_lists, low_lists, stepped, asked_by, prepared_as, put_lists, refusal, rows_of, no_marks, Turn, told, act_step, append_step, asked_as, asked_for, demand_of, demanded_as, done_step, dummy_for, facts_with, judged_as, link_as, link_step, login_id, low_as, low_step, put_as, put_step, ring_for, ring_step, own}
 use Rattle.sbp_world.proofs.Words.Laws.{action_notes, append_notes, new_list, new_number, refusals, Host, linked}
 use Rattle.sbp_world.proofs.Words.World.{AreRows, ReadAs, last_linked, ActionLaw, HasRows}
 use Rattle.orb_list.specs.declared.list.Link.TheVariants as links

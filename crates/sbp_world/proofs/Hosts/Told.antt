@@ -2,7 +2,7 @@
 use Rattle.sbp_world.proofs.Words.Std.{◌≡◌, refl, sym, ◌∙◌, ap, subst, ℕ, suc, ◌+◌, ◌<◌, ◌==◌, Bool, true, cond, List, ◌∷◌, map, max, Option, Some, None, Ok}
 use Rattle.sbp_world.proofs.Words.Wire.{Moment, said, wire_terms, OpWord}
 use Rattle.sbp_world.proofs.Words.Initiator.{Memory, slot_of, StatusBlock, Link, Linking, PresentList, SlotState, TicketParts, SlotTable, slot_in, waiting, low_in, high_in, low_for, high_for, waits_low, waits_high, row_of}
-use Rattle.sbp_world.proofs.Words.Laws.{access_at, TakenStatus, Row, put_to_rest, last_got, src_in, pinned_orb}
+use Rattle.sbp_world.proofs.Words.Laws.{access_at, TakenStatus, put_to_rest, last_got, src_in, pinned_orb}
 use Rattle.sbp_world.proofs.Words.World.{name_in, terms_at, over_at, StateFits, Frees, Rows, AreRows, MayTake}
 use Rattle.std.proofs.Common.{slice_set}
 use Rattle.orb_list.specs.declared.list.Link.TheVariants as links

@@ -1,5 +1,6 @@
 -- As each packet is got in a run in which no initiator injected packets, or few logins were given: while an agent of an initiator that injected none has an ORB that it read ahead, what it waits for begins not in the slot of that ORB, and so what is got of its initiator does
 -- not, where what answers no agent does not.
+use Rattle.sbp_world.proofs.Common.{same_node}
 use Rattle.sbp_world.proofs.Words.Std.{◌+◌, arith, inl, inr, ◌≡◌, ◌∙◌, refl, sym, ap, subst, ◌<◌, ◌≤◌, ◌-◌, ◌==◌, nat_lt, ℕ, suc, Bool, true, false, cond, List, [], ◌∷◌, length, Option, Some, None, nat_tests, pow_pos}
 use Rattle.sbp_world.proofs.Words.Wire.{Access, Cmd, Event, Moment, asked, said, Sending, Terms, terms, Note}
 use Rattle.sbp_world.proofs.Words.Target.{Phase, Which, Ahead, Main, Machine, chunk_of, cut_to, limit_of, Knows, KnowsAhead, Progress, main_ask, number_behind, Table, place_at, Disk}
@@ -134,9 +135,6 @@ module _ (units ready : ℕ) (has : 0 < units) (start : List Disk) {past : List 
   site : Site start past w
   site = site_at start past w q
 
-  same_initiator : (a b : ℕ) → Some (suc a) ≡ Some (suc b) → a ≡ b
-  same_initiator a b e = cc
-
   -- the FIFO of a live login of an initiator that injected none is in no slot
   pub fifo_data : (place : ℕ) → place < 8 → is_open_at w place ≡ true → IsCalm ms (initiator_in w place) → NoData (fifo_in (term_login T place))
   fifo_data place b is_open calm slot d =
@@ -258,7 +256,7 @@ module _ (units ready : ℕ) (has : 0 < units) (start : List Disk) {past : List 
   pub ahead_here : (serial : ℕ) → IsAheadElsewhere (injectors ms) start ms serial
   ahead_here serial place b i slot own a x but =
       let wait = agent_waiting units ready has start w h site place b a.side a.mine a.waits in
-      let same : initiator_in w place ≡ i = same_initiator (initiator_in w place) i (sym wait.to ∙ a.to) in
+      let same : initiator_in w place ≡ i = same_node (initiator_in w place) i (sym wait.to ∙ a.to) in
       subst (λ k. AllElsewhere slot (read_by t k serial (answered_at t serial))) same
       (of_initiator serial place b (subst (IsCalm ms) (sym same) own) a.side a.mine a.waits slot x (subst (λ k. IsElsewhereBut start ms k slot serial (answered_at t serial)) (sym same) but))
 

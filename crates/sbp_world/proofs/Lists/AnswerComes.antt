@@ -3,7 +3,7 @@ use Rattle.sbp_world.proofs.Words.Std.{◌≡◌, ◌∙◌, refl, sym, ap, subs
 use Rattle.sbp_world.proofs.Words.Wire.{Sent, found_sent, end_note, judged_note, no_packet, Event, Moment, asked, check_of, said, Note, Judged}
 use Rattle.sbp_world.proofs.Words.Target.{Disk, Told, Held, plain_in, Outcome}
 use Rattle.sbp_world.proofs.Words.Laws.{known_at, plain_of, target_at, unit_at}
-use Rattle.sbp_world.proofs.Words.World.{holder, delivered, MayTell, MayHappen, acted, happens, keyed, reset_line, see_line, tick_line, MayIf, delivered_if, inject_line, is_in_flight, lose_line, may_repeat, timeout_line, MayNext, delivered_at, delivered_next, lowest, after_all, IsLine, Scene, WorldState, begun, without_notes}
+use Rattle.sbp_world.proofs.Words.World.{holder, delivered, MayTell, MayHappen, acted, happens, keyed, reset_line, see_line, tick_line, MayIf, delivered_if, inject_line, is_in_flight, lose_line, may_repeat, timeout_line, MayNext, delivered_at, delivered_next, lowest, IsLine, Scene, WorldState, begun, without_notes}
 use Rattle.sbp_world.proofs.Agents.UnitsLines.{opened as units_opened}
 use Rattle.sbp_journal.specs.declared.event.Event.TheVariants as events
 use Rattle.sbp_journal.specs.declared.note.Note.TheVariants as notes

@@ -14,7 +14,7 @@ use Rattle.sbp_world.proofs.Lists.Passing.{PassAt, PassLaw, RunsNext}
 use Rattle.sbp_world.proofs.Lists.SlotShut.{AllApart}
 use Rattle.sbp_world.proofs.Lists.StatusKnown.{IsKnown, known_less, all_three}
 use Rattle.sbp_world.proofs.Lists.WasReads.{got_now, got_later}
-use Rattle.sbp_world.proofs.Common.{moments_split}
+use Rattle.sbp_world.proofs.Common.{moments_split, serial_is}
 
 pub tail_is : (m x : Moment) (a b : List Moment) → m ∷ a ≡ x ∷ b → a ≡ b
 tail_is m x a b e = cc
@@ -145,10 +145,6 @@ pub record IsItsRun (i n k j : ℕ) (list number : Option ℕ) : Type 0 where
   pub of : j ≡ i
   pub list_is : list ≡ Some n
   pub number_is : number ≡ Some k
-
-serial_is : (found : Option ℕ) (a : ℕ) → is_serial found a ≡ true → found ≡ Some a
-serial_is None a e = absurd (false≢true e)
-serial_is (Some b) a e = ap (λ x. Some x) (let z : b ≡ a = grind (arith, nat_tests, e) in z)
 
 pub its_run : (i n k j : ℕ) (list number : Option ℕ) → is_run_of i n k j list number ≡ true → IsItsRun i n k j list number
 its_run i n k j list number e =

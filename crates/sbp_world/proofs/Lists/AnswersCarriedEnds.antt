@@ -1,5 +1,5 @@
 -- As a good status is taken whose ORB has data that go to its initiator, in a buffer with bytes, the target wrote data of this ORB in the generation that the initiator is in; and where its data do not, it wrote none.
-use Rattle.sbp_world.proofs.Words.Std.{arith, ◌≡◌, ◌∙◌, refl, sym, ap, subst, ◌<◌, ◌≤◌, ◌+◌, nat_lt, nat_eq, ℕ, suc, Bool, true, false, cond, List, [], ◌∷◌, ◌++◌, Option, Some, None, nat_tests, false≢true, same_Some}
+use Rattle.sbp_world.proofs.Words.Std.{arith, ◌≡◌, ◌∙◌, refl, sym, ap, subst, ◌<◌, ◌≤◌, ◌+◌, nat_lt, nat_eq, ℕ, suc, Bool, true, false, cond, List, [], ◌∷◌, ◌++◌, Option, Some, None, nat_tests, same_Some}
 use Rattle.sbp_world.proofs.Words.Wire.{SerialsCount, Cmd, Moment, asked, said, Sending, terms, AreJudged}
 use Rattle.sbp_world.proofs.Words.Target.{Disk, Machine}
 use Rattle.sbp_world.proofs.Words.Initiator.{StatusKind}

@@ -1,19 +1,20 @@
 -- A packet that an initiator gets, and the buffer of a slot: it brings bytes of the buffer, and is one of the writes of the target to its pieces, only where it writes into the window of this buffer; and a write of a
 -- piece of the buffer is complete while the slot has an ORB whose data go to the initiator.
-use Rattle.sbp_world.proofs.Words.Std.{inl, inr, ◌⊎◌, arith, ◌≡◌, ◌∙◌, refl, sym, ap, ◌<◌, ◌≤◌, ◌+◌, ◌-◌, ◌^◌, ◌==◌, ◌&&◌, not, nat_le, nat_lt, nat_eq, ℕ, suc, zero, Bool, true, false, cond, List, [], ◌∷◌, length, Option, Some, None, filter, nat_tests, Any-from_list_any, list_any_at, false≢true, same_Some, big_bytes}
+use Rattle.sbp_world.proofs.Words.Std.{arith, ◌≡◌, ◌∙◌, refl, sym, ap, ◌<◌, ◌≤◌, ◌+◌, ◌-◌, ◌^◌, ◌==◌, ◌&&◌, not, nat_le, nat_lt, nat_eq, ℕ, suc, zero, Bool, true, false, cond, List, [], ◌∷◌, length, Option, Some, None, filter, nat_tests, Any-from_list_any, list_any_at, false≢true, same_Some, big_bytes}
 use Rattle.sbp_world.proofs.Words.Wire.{Packet, lock, lock_response, read_block, read_block_response, read_quadlet, read_quadlet_response, write_block, write_quadlet, write_response, Access, access_of, first_or, Moment, Cmd}
 use Rattle.sbp_world.proofs.Words.Initiator.{Window, IfShare, IsWindow, is_fifo, start, window_at, Chunk, buffer_addresses, chunks}
-use Rattle.sbp_world.proofs.Words.Laws.{Moved, begins_one, laid_out, pieces_of, written_in, rom_size, SlotState, orb, prepared_in, slots, vacant, used, resting, command_at, access_in, direction_of, goes_in, has_direction, is_complete_at, is_open, is_used, lies_inside, size_of, slot_is_open}
+use Rattle.sbp_world.proofs.Words.Laws.{Moved, begins_one, laid_out, pieces_of, written_in, rom_size, orb, prepared_in, command_at, access_in, direction_of, goes_in, has_direction, is_complete_at, is_open, lies_inside, size_of}
 use Rattle.sbp_world.proofs.Words.World.{Follows, touches, touching, write_in, HasSlot}
 use Rattle.std.proofs.Common.{slice_index_or}
 use Rattle.bus_memory.specs.declared.window.Window.TheVariants as windows
 use Rattle.bus_memory.proofs.Found.{window_share}
 use Rattle.sbp_world.proofs.Hosts.BytePlaces.{address_at, laid_at, laid_room, place_of}
 use Rattle.sbp_world.proofs.Hosts.ByteReads.{part_at}
-use Rattle.sbp_world.proofs.Hosts.ResponseTells.{inside_by}
+use Rattle.sbp_world.proofs.Hosts.ResponseTells.{code_zero, inside_by}
 use Rattle.sbp_world.proofs.Lists.AnswersCarriedChunks.{all_in_turn}
 use Rattle.sbp_world.proofs.Lists.FedWindows.{taken_stands}
 use Rattle.sbp_world.proofs.Lists.Slots.{IsFilled, data_window, inside}
+use Rattle.sbp_world.proofs.Lists.SlotsHeld.{slot_opened}
 use Rattle.sbp_world.proofs.Agents.CrewSeats.{not_both}
 use Rattle.sbp_world.proofs.Common.{and_second, and_first, none_is}
 
@@ -172,36 +173,30 @@ module _ (slot : ℕ) (small : slot < 32) (cmd : Cmd) (filled : IsFilled slot cm
     buffer_by true None e = refl
     buffer_by true (Some p) e = packet_by p e
 
-  -- ---- a write of bytes of the buffer
-  module _ (past : List Moment) (i n k : ℕ) (has : HasSlot past i slot (orb n k)) (command : command_at past i n k ≡ Some cmd) (inward : cmd.to_initiator ≡ true) (access : Access) (lock : access.is_lock ≡ false) (write : access.is_write ≡ true) (some : 0 < access.count) (at : ℕ) (follow : Follows access slot cmd at) where
-    abbrev pub last : ℕ
-    last = access.count - 1
-
+  -- ---- bytes of the buffer
+  module _ (access : Access) (some : 0 < access.count) (at : ℕ) (follow : Follows access slot cmd at) where
     stands : (p : ℕ) → p < access.count → access.offset + p ≡ base + place_of cmd.segments (at + p)
     stands p b =
         let more = inside slot small cmd filled access at some follow in
         sym (address_at access.offset access.count p b)
         ∙ (ap (λ xs. slice_index_or xs p 0) follow ∙ (part_at access.count at p places b ∙ laid_at slot cmd cmd.segments filled.fills (at + p) (omega (arith, more, b))))
 
-    ends : access.offset + access.count ≤ base + 32768
-    ends =
+    -- they end in its window, and begin there
+    pub buffer_ends : access.offset + access.count ≤ base + 32768
+    buffer_ends =
+        let last = access.count - 1 in
         let more = inside slot small cmd filled access at some follow in
         let e = stands last (omega (arith, some)) in
         let room = laid_room slot cmd cmd.segments filled.fills (at + last) (omega (arith, more, some)) in
         omega (arith, e, room, some)
 
+    pub buffer_begins : base ≤ access.offset
+    buffer_begins = let e = stands 0 some in omega (arith, e)
+
+  -- ---- a write of them
+  module _ (past : List Moment) (i n k : ℕ) (has : HasSlot past i slot (orb n k)) (command : command_at past i n k ≡ Some cmd) (inward : cmd.to_initiator ≡ true) (access : Access) (lock : access.is_lock ≡ false) (write : access.is_write ≡ true) (some : 0 < access.count) (at : ℕ) (follow : Follows access slot cmd at) where
     pub window : window_at access.offset ≡ Some (windows.Buffer slot)
     window = data_window slot small cmd filled access at some follow
-
-    begins : base ≤ access.offset
-    begins = let e = stands 0 some in omega (arith, e)
-
-    used_by : (state : SlotState) → (state ≡ used (orb n k)) ⊎ (state ≡ resting) → is_used state ≡ true
-    used_by state (inl e) = ap is_used e
-    used_by state (inr e) = ap is_used e
-
-    opened : slot_is_open past i slot ≡ true
-    opened = used_by (slice_index_or (slots past i) slot vacant) has.held
 
     long : 0 < cmd.length
     long = let more = inside slot small cmd filled access at some follow in omega (arith, more, some)
@@ -213,37 +208,29 @@ module _ (slot : ℕ) (small : slot < 32) (cmd : Cmd) (filled : IsFilled slot cm
 
     lies : lies_inside past i (rom_size (suc i) 0) access (window_at access.offset) ≡ true
     lies =
-        let low = begins in
-        let high = ends in
+        let low = buffer_begins access some at follow in
+        let high = buffer_ends access some at follow in
         let room : nat_le (access.offset - base + access.count) 32768 ≡ true = grind (arith, nat_tests, low, high) in
         ap (λ w. lies_inside past i (rom_size (suc i) 0) access w) window
-        ∙ (ap (λ b. b && nat_le (access.offset - base + access.count) 32768) opened ∙ room)
+        ∙ (ap (λ b. b && nat_le (access.offset - base + access.count) 32768) (slot_opened past i slot (orb n k) has) ∙ room)
 
     has_way : has_direction past i access (window_at access.offset) ≡ true
     has_way =
         ap (λ w. has_direction past i access w) window
         ∙ (ap (λ b. has_direction past i (record access { is_write = b }) (Some (windows.Buffer slot))) write ∙ directed)
 
-    rows : (l e f n h : Bool) → l ≡ false → e ≡ false → f ≡ false → n ≡ true → h ≡ true → (first_or 0 ((l, 6) ∷ (e, 6) ∷ (f, 6) ∷ (not n, 7) ∷ (not h, 6) ∷ []) == 0) ≡ true
-    rows l e f n h a b c d g =
-        ap (λ x. first_or 0 ((x, 6) ∷ (e, 6) ∷ (f, 6) ∷ (not n, 7) ∷ (not h, 6) ∷ []) == 0) a
-        ∙ (ap (λ x. first_or 0 ((x, 6) ∷ (f, 6) ∷ (not n, 7) ∷ (not h, 6) ∷ []) == 0) b
-        ∙ (ap (λ x. first_or 0 ((x, 6) ∷ (not n, 7) ∷ (not h, 6) ∷ []) == 0) c
-        ∙ (ap (λ x. first_or 0 ((not x, 7) ∷ (not h, 6) ∷ []) == 0) d
-        ∙ ap (λ x. first_or 0 ((not x, 6) ∷ []) == 0) g)))
-
     pub complete : is_complete_at past i (Some access) ≡ true
     complete =
-        let high = ends in
+        let high = buffer_ends access some at follow in
         let empty : (access.count == 0) ≡ false = grind (arith, nat_tests, some) in
-        rows access.is_lock (access.count == 0) (is_fifo access.offset) _ _ lock empty (low_fifo access.offset (omega (arith, high, some, small))) lies has_way
+        ap (λ x. x == 0) (code_zero access.is_lock (access.count == 0) (is_fifo access.offset) _ _ lock empty (low_fifo access.offset (omega (arith, high, some, small))) lies has_way)
 
     -- and it brings bytes of the buffer
     pub touched : (bytes : List ℕ) → length bytes ≡ access.count → touches places (record { offset = access.offset; bytes = bytes }) ≡ true
     touched bytes size =
         let more = inside slot small cmd filled access at some follow in
         let count = filled.length_is in
-        let e = stands 0 some in
+        let e = stands access some at follow 0 some in
         let less : at < cmd.length = omega (arith, more, some) in
         let there : slice_index_or places at 0 ≡ access.offset = laid_at slot cmd cmd.segments filled.fills at less ∙ (let z : base + place_of cmd.segments at ≡ access.offset = (let same : at + 0 ≡ at = omega arith in ap (λ x. base + place_of cmd.segments x) (sym same) ∙ (sym e ∙ (let y : access.offset + 0 ≡ access.offset = omega arith in y))) in z) in
         let first : nat_le access.offset access.offset ≡ true = grind (arith, nat_tests) in

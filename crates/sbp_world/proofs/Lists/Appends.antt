@@ -51,7 +51,7 @@ none_latest : (lists_are : ℕ) (appended : ℕ → ℕ) → ((m : ℕ) → list
 none_latest lists_are appended to_come = record { is = λ n e. absurd (none-some n e); has = λ n e. absurd (none-some n e); to_come = to_come }
 
 -- ---- the lowest free slot
-lowest_free : (slots : List Slot) → lowest_vacant (map row slots) < length slots → is_free (slot_in slots (lowest_vacant (map row slots))) ≡ true
+pub lowest_free : (slots : List Slot) → lowest_vacant (map row slots) < length slots → is_free (slot_in slots (lowest_vacant (map row slots))) ≡ true
 lowest_free [] b = absurd (omega arith)
 lowest_free (slot ∷ slots) b = by (λ c. lowest_free slots c) (is_vacant (row slot)) refl b
   where

@@ -6,6 +6,10 @@ use Rattle.sbp_journal.specs.declared.note.Note.TheVariants as notes
 use Rattle.sbp_world.proofs.Hosts.SentMoments.{sent_begins}
 use Rattle.sbp_world.proofs.Lists.UnrunTerms.{lists_grow}
 
+pub order_from : (wild : ℕ → Bool) (later past : List Moment) → OrderLaw wild (later ++ past) → OrderLaw wild past
+order_from wild [] past law = law
+order_from wild (m ∷ later) past law = order_from wild later past law.1
+
 module _ (wild : ℕ → Bool) (i n : ℕ) where
   append_begun : (j m k : ℕ) (past : List Moment) → IsNextAppend past j m k → (0 < appends past i n → n < lists past i) → (a b c : Bool) → nat_eq i j ≡ a → nat_eq n m ≡ b → (k == 0) ≡ c → 0 < cond a (cond b (suc (appends past j m)) (appends past i n)) (appends past i n) → n < cond a (cond c (suc (lists past j)) (lists past j)) (lists past i)
   append_begun j m k past x ih false b c e f g h = ih h
@@ -35,14 +39,10 @@ module _ (wild : ℕ → Bool) (i n : ℕ) where
   was_begun (said (notes.Append j m k cdb buffer) ∷ past) law h = append_begun j m k past law.0 (was_begun past law.1) (nat_eq i j) (nat_eq n m) (k == 0) refl refl refl h
   was_begun (said note ∷ past) law h = was_begun past law.1 h
 
-  pub order_from : (later past : List Moment) → OrderLaw wild (later ++ past) → OrderLaw wild past
-  order_from [] past law = law
-  order_from (m ∷ later) past law = order_from later past law.1
-
   pub latest_then : (earlier : List Moment) (serial k : ℕ) → OrderLaw wild earlier → suc n ≡ lists earlier i → k < appends (before_sent earlier serial) i n → suc n ≡ lists (before_sent earlier serial) i
   latest_then earlier serial k law latest below =
       let b = sent_begins earlier serial in
       let H = before_sent earlier serial in
       let grown = subst (λ ms. lists H i ≤ lists ms i) b.is (lists_grow i b.later H) in
-      let begun = was_begun H (order_from b.later H (subst (OrderLaw wild) (sym b.is) law)) (omega (arith, below)) in
+      let begun = was_begun H (order_from wild b.later H (subst (OrderLaw wild) (sym b.is) law)) (omega (arith, below)) in
       omega (arith, grown, begun, latest)

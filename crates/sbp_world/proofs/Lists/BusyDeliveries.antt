@@ -1,5 +1,5 @@
 -- A packet that the target gets, and a time-out: each agent stays in its phase or is cut; or the agent of one place makes a step, or is pointed to an ORB.
-use Rattle.sbp_world.proofs.Words.Std.{◌≡◌, refl, sym, ap, subst, inl, ◌<◌, ℕ, Bool, true, false, cond, List, [], length, Option, Some, None, Result, Ok, Err, false≢true}
+use Rattle.sbp_world.proofs.Words.Std.{◌≡◌, refl, sym, ap, subst, inl, ◌<◌, ℕ, Bool, true, false, cond, List, [], length, Option, Some, None, Result, Ok, Err}
 use Rattle.sbp_world.proofs.Words.Wire.{LabelParts, Packet, header_in, Finding, Layer, judging_step, of_again, of_generation, of_grammar, of_label, of_request, of_response, Sent, Judged, empty_outbox}
 use Rattle.sbp_world.proofs.Words.Target.{Login, Held, Told, PointRefusal, Which, point_step, reply_step, address_error, complete, demand_of, Access, Demand, Purpose, cut, which_in, Scene, desk_at, login_at, scene, answer_in, concluded, expire_agent, expired_by, judged_scene, received, received_as, settled, timed_out, Whole, replied_by, replied_to, served_login, whole, plain_in, accessed_by, answered, enabled, is_barred, point, serve, served_as, Machine, is_ahead, is_sent, Ahead, Main, is_that, pointed_desk, with_desk, pointed_by, rcode_of, ring, seen, ticked}
 use Rattle.sbp_world.proofs.Words.Initiator.{Ask, OrbPointer, Expired}
@@ -13,7 +13,6 @@ use Rattle.sbp_target.specs.declared.purpose.Purpose.TheVariants as purposes
 use Rattle.sbp_target.specs.Serving.{request_step}
 use Rattle.sbp_target.proofs.Histories.Calling.{Good}
 use Rattle.sbp_target.proofs.Histories.Settled.{reaches}
-use Rattle.command_agent.specs.declared.phase.Phase.TheVariants as phases
 use Rattle.sbp_target.proofs.Histories.Calling.{not_eight}
 use Rattle.sbp_world.proofs.Agents.AskedLate.{ahead_of, main_of}
 use Rattle.sbp_world.proofs.Lists.BusyCuts.{Cutting, First, answers, cuts_one, desk_more, manages, same_desks, sees, starts, ticks}

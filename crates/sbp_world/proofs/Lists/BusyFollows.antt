@@ -6,7 +6,7 @@ use Rattle.sbp_world.proofs.Words.Target.{Login, Outcome, AgentStep, Which, Mach
 use Rattle.sbp_world.proofs.Words.Initiator.{Ask, FailCause, StatusKind}
 use Rattle.orb_layout.specs.declared.ask.FailCause.TheVariants as causes
 use Rattle.sbp_journal.specs.declared.side.Side.TheVariants as sides
-use Rattle.sbp_world.proofs.Lists.SameAgents.{AreSame, announce_alike, follow_alike, noted_same, set_here, set_there}
+use Rattle.sbp_world.proofs.Lists.SameAgents.{AreSame, announce_alike, follow_alike, noted_same, set_here, set_there, noted_outbox}
 use Rattle.sbp_world.proofs.Lists.Busy.{is_busy, lost_busy}
 use Rattle.command_agent.specs.Steps as steps
 use Rattle.sbp_world.proofs.Lists.Full.{IsClosed}
@@ -114,10 +114,6 @@ module _ (q : ℕ) (b : q < 8) (Known Given : Type 0) (F : ℕ → Machine → T
   unfolding tell_step
   step_ends step m o e = ended_tells step.ended m (tell_dead q step.dead (tell_ran q m step.ran o)) e
 
-  noted_outbox : (step : AgentStep) (s : Scene) → (noted q step s).outbox ≡ tell_step q (desk_at s.node q).agent step s.outbox
-  unfolding noted
-  noted_outbox step s = refl
-
   -- a step that is not told yet: the agent has the ORB still, or it ends now or ended before
   pub record Steps (step : AgentStep) (s : Scene) : Type 0 where
     pub of : AreOf q s.outbox.sides
@@ -130,13 +126,13 @@ module _ (q : ℕ) (b : q < 8) (Known Given : Type 0) (F : ℕ → Machine → T
   pub noted_acts : (step : AgentStep) (s : Scene) → Steps step s → Acts (noted q step s)
   noted_acts step s m =
       let a = noted_same q b step s m.desks in
-      let e : (noted q step s).outbox.sides ≡ (tell_step q (desk_at s.node q).agent step s.outbox).sides = ap (λ (o : OutboxState). o.sides) (noted_outbox step s) in
+      let e : (noted q step s).outbox.sides ≡ (tell_step q (desk_at s.node q).agent step s.outbox).sides = ap (λ (o : OutboxState). o.sides) (noted_outbox q step s) in
       record { of = subst (AreOf q) (sym e) (step_of step (desk_at s.node q).agent s.outbox m.of); desks = a.desks ∙ m.desks; same = λ p f. a.agents p ∙ m.same p f; busy = λ known. by (m.busy known); full = λ g f. subst (λ x. F q x) (sym (a.agents q)) (m.full g f); up = λ h. subst (λ (x : Machine). IsUp x) (sym (a.agents q)) (m.up h) }
     where
       by : ((is_busy (desk_at s.node q).agent.phase ≡ true) ⊎ (is_some step.ended ≡ true)) ⊎ (has_end s.outbox.sides ≡ true) → (is_busy (desk_at (noted q step s).node q).agent.phase ≡ true) ⊎ (has_end (noted q step s).outbox.sides ≡ true)
       by (inl (inl h)) = inl (ap (λ (m : Machine). is_busy m.phase) ((noted_same q b step s m.desks).agents q) ∙ h)
-      by (inl (inr h)) = inr (ap (λ (o : OutboxState). has_end o.sides) (noted_outbox step s) ∙ step_ends step (desk_at s.node q).agent s.outbox h)
-      by (inr h) = inr (ap (λ (o : OutboxState). has_end o.sides) (noted_outbox step s) ∙ step_keeps step (desk_at s.node q).agent s.outbox h)
+      by (inl (inr h)) = inr (ap (λ (o : OutboxState). has_end o.sides) (noted_outbox q step s) ∙ step_ends step (desk_at s.node q).agent s.outbox h)
+      by (inr h) = inr (ap (λ (o : OutboxState). has_end o.sides) (noted_outbox q step s) ∙ step_keeps step (desk_at s.node q).agent s.outbox h)
 
   -- ---- a transaction that finds no label
   lost_steps : (s : Scene) (which : Which) → Acts s → (let l = lost_step (desk_at s.node q).agent which causes.Label in Steps l.0 (scene (with_agent s.node q l.1) s.outbox))

@@ -1,5 +1,5 @@
 -- What is told of the steps of the agent of a place, by the history: the ORBs of other initiators ran as often as before, and an end is one of its initiator.
-use Rattle.sbp_world.proofs.Words.Std.{◌≡◌, ◌∙◌, refl, sym, ap, subst, ℕ, List, [], ◌∷◌, false≢true}
+use Rattle.sbp_world.proofs.Words.Std.{◌≡◌, ◌∙◌, refl, sym, ap, subst, ℕ, List, [], ◌∷◌}
 use Rattle.sbp_world.proofs.Words.Wire.{holder_at, opened_step, list_in, orb_in, check_of, Side, Moment}
 use Rattle.sbp_world.proofs.Words.Laws.{runs}
 use Rattle.sbp_world.proofs.Words.World.{holder, ticket_at, told, told_all, WorldState}

@@ -16,7 +16,7 @@ use Rattle.sbp_world.proofs.Lists.Busy.{StaysBusy, is_busy, lost_busy, replied_b
 use Rattle.sbp_world.proofs.Lists.BusyCuts.{Cutting, answers, desk_more}
 use Rattle.sbp_world.proofs.Lists.StepsUp.{IsUp, doorbell_up, lost_up, point_up, reply_up}
 use Rattle.sbp_world.proofs.Lists.BusyFollows.{Acts, Steps, alike, announce_from_acts, asks_acts, follow_acts}
-use Rattle.sbp_world.proofs.Lists.SameAgents.{AreSame, are_self, set_here, set_there}
+use Rattle.sbp_world.proofs.Lists.SameAgents.{set_here, set_there, changed_same}
 use Rattle.sbp_world.proofs.Lists.Full.{IsClosed}
 use Rattle.sbp_world.proofs.Lists.Pointers.{not_taken, deaf_by}
 
@@ -68,10 +68,6 @@ module _ (w : WorldState) (g : Good w.target) (Given : Type 0) (F : ℕ → Mach
 
     abbrev pub By : Type 0 → Scene → Type 0
     By Known s = Acts q b Known Given F closed M s
-
-    changed_same : (x : Bool) (unit place : ℕ) (one : NodeState) → AreSame one (changed_by x unit place one)
-    changed_same true unit place one = record { desks = refl; agents = λ p. refl }
-    changed_same false unit place one = are_self one
 
     announced_acts : (x : Bool) (unit : ℕ) (s : Scene) → By Busy s → By Busy (announced_by x unit q s)
     announced_acts true unit s m = announce_from_acts q b Busy Given F closed M 8 0 unit q (omega arith) s m

@@ -17,7 +17,8 @@ use Rattle.sbp_world.proofs.Agents.Management.Asking.{Turned}
 use Rattle.sbp_world.proofs.Agents.Management.Calls.{DoesAs, Doing, ForDemand, ForFinding, ForReply, ForRequest, QuietFinding, barred_same, calmly, delivery_does, managing}
 use Rattle.sbp_world.proofs.Agents.Management.Hearing.{request_current, response_current}
 use Rattle.sbp_world.proofs.Agents.Management.Holding.{marked_hist}
-use Rattle.sbp_world.proofs.Lists.ContentLanding.{Ends, calm_request, ignored_ends, manage_of, noted_world, other_ends, own_ends, rested, starting_request}
+use Rattle.sbp_world.proofs.Lists.ContentLanding.{Ends, calm_request, ignored_ends, noted_world, other_ends, own_ends, rested, starting_request}
+use Rattle.sbp_world.proofs.Agents.Management.Landing.{manage_of}
 use Rattle.sbp_world.proofs.Agents.Management.Managed.{IsReady}
 use Rattle.sbp_world.proofs.Agents.Management.Still.{Clock, clock_still, gets_clock, hist, ignores_still}
 use Rattle.sbp_world.proofs.Agents.Management.Lapsing.{agent_no, unsolicited_no, none_no}

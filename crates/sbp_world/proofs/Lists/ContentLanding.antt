@@ -1,9 +1,9 @@
 -- A packet is delivered to the target: behind the whole turn each packet of an operation asks for what the operation asked for.
 use Rattle.sbp_world.proofs.Words.Std.{arith, ◌≡◌, ◌≢◌, ◌∙◌, refl, sym, ap, subst, ℕ, ◌^◌, ◌<◌, ◌≤◌, is_some, Bool, true, false, cond, List, [], ◌∷◌, length, Option, Some, None, Result, Ok, unwrap_or, nat_tests}
-use Rattle.sbp_world.proofs.Words.Wire.{PacketFault, LabelParts, Packet, header_in, lock, lock_response, read_block, read_block_response, read_quadlet, read_quadlet_response, write_block, write_quadlet, write_response, reading, AreBytes, AreJudged, as_sending, ReplyKind, Layer, judging_step, of_response, reply_kind, Sent, found_sent, Access, access_of, Moment, said, Kind, Sending, part_in, part_of, request, response, Terms, terms, Cause, Judged, Outgoing, empty_outbox, canon, kind_as, response_to, start_at, start_serves, judged_note}
-use Rattle.sbp_world.proofs.Words.Target.{Table, ManagerStep, Disk, Demand, demand_of, answered, Purpose, NodeState, scene, answer_in, Whole, TransactionLaw}
+use Rattle.sbp_world.proofs.Words.Wire.{PacketFault, LabelParts, Packet, header_in, reading, AreBytes, AreJudged, as_sending, ReplyKind, Layer, judging_step, of_response, reply_kind, Sent, found_sent, Moment, said, Kind, Sending, part_in, part_of, request, response, Terms, terms, Cause, Judged, Outgoing, empty_outbox, canon, kind_as, response_to, start_at, start_serves, judged_note}
+use Rattle.sbp_world.proofs.Words.Target.{Table, ManagerStep, Disk, Demand, demand_of, Purpose, NodeState, scene, answer_in, Whole, TransactionLaw}
 use Rattle.sbp_world.proofs.Words.Laws.{start_got, Target, got_by, is_serial, over, laws_replied, request_got, target_at}
-use Rattle.sbp_world.proofs.Words.World.{sent_all, marked, handed_out, WorldState, with_note, with_target, FitsManager, IsOfWire, Stands, demanded, Office, at_rest, office_of, replied, started, IsManagementAt, AreContents}
+use Rattle.sbp_world.proofs.Words.World.{marked, handed_out, WorldState, with_note, with_target, FitsManager, IsOfWire, Stands, demanded, Office, at_rest, office_of, replied, started, IsManagementAt, AreContents}
 use Rattle.bus_transactions.proofs.PacketParts.{PartOf, asks, part_case, part_read, replies}
 use Rattle.mgmt_agent.specs.Machine as management
 use Rattle.sbp_journal.specs.declared.cause.Judged.TheVariants as judgements
@@ -20,7 +20,6 @@ use Rattle.sbp_world.proofs.FitTarget.Manager.{managed_fits}
 use Rattle.sbp_target.proofs.Histories.Primitives.{closing_known}
 use Rattle.sbp_target.proofs.Histories.Seats.{Lives}
 use Rattle.sbp_world.proofs.Agents.Management.Asking.{Turned}
-use Rattle.sbp_world.proofs.Agents.Management.Calls.{ForDemand, IsStart}
 use Rattle.sbp_world.proofs.Agents.Management.Calm.{Calm, ForManager}
 use Rattle.sbp_world.proofs.Agents.Management.Delivering.{answer_is, answers_own, is_other}
 use Rattle.sbp_world.proofs.Agents.Management.Firsts.{got_here, ignored_office, manage_idle, other_reply, own_idle, own_reply, request_keeps}
@@ -30,56 +29,11 @@ use Rattle.sbp_world.proofs.Agents.Management.Idle.{IsIdle, over_idle}
 use Rattle.sbp_world.proofs.Agents.Management.Managed.{IsReady, PassedOver, none_passed}
 use Rattle.sbp_world.proofs.Agents.Management.Managing.{quiet_says}
 use Rattle.sbp_world.proofs.Agents.Management.Offices.{over_keeps}
-use Rattle.sbp_world.proofs.Agents.Management.Outs.{response_term}
 use Rattle.sbp_world.proofs.Agents.Management.Still.{hist}
 use Rattle.sbp_world.proofs.Agents.Management.Told.{office_in, term_in}
 use Rattle.sbp_world.proofs.Lists.ContentTurns.{Passes, calm_contents, managing_contents, none_passes, one_passes}
-use Rattle.sbp_world.proofs.Agents.Management.Landing.{response_part, start_asks, answer_is_one}
+use Rattle.sbp_world.proofs.Agents.Management.Landing.{response_part, start_asks, answer_is_one, AccessIs, access_there, one_passed, IsManage}
 use Rattle.sbp_world.proofs.Agents.CrewFirsts.{current_by}
-
--- what a request asks for
-record AccessIs (p : Packet) : Type 0 where
-  access : Access
-  is : access_of p ≡ Some access
-
-access_there : (p : Packet) → reply_kind p ≡ None → AccessIs p
-access_there (write_quadlet header offset value) e = record { access = record { is_lock = false; is_write = true; is_block = false; offset = offset; count = 4; payload = [] }; is = refl }
-access_there (write_block header offset payload) e = record { access = record { is_lock = false; is_write = true; is_block = true; offset = offset; count = length payload; payload = payload }; is = refl }
-access_there (write_response header rcode) e = absurd (some_not e)
-  where
-    some_not : {k : ReplyKind} → Some k ≡ None → ⊥
-    some_not e = cc
-access_there (read_quadlet header offset) e = record { access = record { is_lock = false; is_write = false; is_block = false; offset = offset; count = 4; payload = [] }; is = refl }
-access_there (read_block header offset asked) e = record { access = record { is_lock = false; is_write = false; is_block = true; offset = offset; count = asked; payload = [] }; is = refl }
-access_there (read_quadlet_response header rcode value) e = absurd (some_not e)
-  where
-    some_not : {k : ReplyKind} → Some k ≡ None → ⊥
-    some_not e = cc
-access_there (read_block_response header rcode payload) e = absurd (some_not e)
-  where
-    some_not : {k : ReplyKind} → Some k ≡ None → ⊥
-    some_not e = cc
-access_there (lock header offset extended payload) e = record { access = record { is_lock = true; is_write = false; is_block = true; offset = offset; count = length payload; payload = [] }; is = refl }
-access_there (lock_response header rcode extended payload) e = absurd (some_not e)
-  where
-    some_not : {k : ReplyKind} → Some k ≡ None → ⊥
-    some_not e = cc
-
--- which demand starts an operation
-pub record IsManage (d : Demand) (node : NodeState) (p : Packet) (bytes : List ℕ) (layer : Layer Purpose) (source : ℕ) (before : List Outgoing) : Type 0 where
-  pub orb : ℕ
-  pub is : d ≡ demands.Manage orb
-  pub start : IsStart node p bytes layer source before
-
-pub manage_of : (d : Demand) (node : NodeState) (p : Packet) (bytes : List ℕ) (layer : Layer Purpose) (source : ℕ) (before : List Outgoing) → ForDemand d node p bytes layer source before → IsManage d node p bytes layer source before
-manage_of (demands.Manage orb) node p bytes layer source before m = record { orb = orb; is = refl; start = m }
-manage_of (demands.Refused rcode) node p bytes layer source before m = absurd m
-manage_of (demands.Rom at len) node p bytes layer source before m = absurd m
-manage_of (demands.Agent place access) node p bytes layer source before m = absurd m
-
-one_passed : (start : List Disk) (past : List Moment) (packet : Outgoing) (number : ℕ) (kind : Kind) → part_of packet.bytes ≡ response number kind → PassedOver start past (packet ∷ [])
-unfolding sent_all
-one_passed start past packet number kind e v i = response_term start past v i packet number kind e
 
 module _ {past : List Moment} (start : List Disk) (w : WorldState) (h : Stands past w) (g : Good w.target) (law : TransactionLaw w.target) (at : IsManagementAt start (hist past w) w.target) (serial : ℕ) (again : Bool) (sent : Sent) (found : found_sent serial w.store.kept ≡ Some sent) (zero_to : sent.to ≡ 0) (were : AreContents start (hist past w)) where
   abbrev t : Terms

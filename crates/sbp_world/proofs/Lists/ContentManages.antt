@@ -7,7 +7,6 @@ use Rattle.sbp_world.proofs.Words.Initiator.{Nothing, offset_at, Answer, Expired
 use Rattle.sbp_world.proofs.Words.Laws.{access_at, access_in_bytes, answer_in, answered_at, id_for, packet_at, receiver_in, sender_in, Decided, Target, got_by, is_nothing, is_serial, is_write_access, key_by, known_at, over, laws_replied, request_got, reset_seen, sent_as, sent_for, taken_on, target_at, target_by, wants, wants_it, event_of}
 use Rattle.sbp_world.proofs.Words.World.{Office, at_rest, by_managed, by_note, office_of, placed, placed_by, replied, started, started_by, ticked, is_its_packet, managed_for, operation_if}
 use Rattle.mgmt_agent.specs.Machine.{Machine}
-use Rattle.orb_layout.specs.declared.ask.Ask.TheVariants as asks
 use Rattle.sbp_journal.specs.declared.event.Event.TheVariants as events
 use Rattle.sbp_journal.specs.declared.note.Note.TheVariants as notes
 use Rattle.sbp_journal.specs.declared.operation.FunctionWord.TheVariants as functions

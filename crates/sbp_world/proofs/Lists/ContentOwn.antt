@@ -4,7 +4,7 @@ use Rattle.sbp_world.proofs.Words.Wire.{Stale, Sent, Request, id_of, node_of, ju
 use Rattle.sbp_world.proofs.Words.Target.{Operation, reply_to, Table, Disk, TargetScene, scene, expired, with_key}
 use Rattle.sbp_world.proofs.Words.Initiator.{Nothing, Expired, act_step, InitiatorState, Turn, new_state, expire_step, receive_step, see_step}
 use Rattle.sbp_world.proofs.Words.Laws.{sender_in, Target, is_serial, over, laws_replied, target_at, target_by}
-use Rattle.sbp_world.proofs.Words.World.{marked, with_initiators, handed_out, acted, acted_by, keyed, no_unit, weight_in, handed_all, initiator_learns, reset_line, see_line, target_learns, target_sees, target_ticks, tick_line, told_seen, with_seen, at_initiator, expires, initiator_expires, inject_line, injected, injected_to, is_in_flight, lose_line, lost, refused, target_expired, target_left, timed_out, posted, sent, sent_all, sent_to, told, told_all, WorldState, initiator_at, with_initiator, with_note, with_target, Office, at_rest, cleared, office_of, AreOthers, AreContents, ContentAt}
+use Rattle.sbp_world.proofs.Words.World.{marked, with_initiators, handed_out, acted, acted_by, keyed, no_unit, weight_in, handed_all, initiator_learns, reset_line, see_line, target_learns, target_sees, target_ticks, tick_line, told_seen, with_seen, at_initiator, initiator_expires, inject_line, injected, injected_to, is_in_flight, lose_line, lost, refused, target_expired, target_left, timed_out, posted, sent, sent_all, sent_to, told, told_all, WorldState, initiator_at, with_initiator, with_note, with_target, Office, at_rest, cleared, office_of, AreOthers, AreContents, ContentAt}
 use Rattle.mgmt_agent.specs.declared.operation.Phase.{Phase}
 use Rattle.mgmt_agent.specs.declared.operation.Phase.TheVariants as phases
 use Rattle.mgmt_agent.specs.Machine.{Machine, reply_step}

@@ -3,7 +3,7 @@ use Rattle.sbp_world.proofs.Words.Std.{arith, ◌≡◌, ◌∙◌, refl, sym, a
 use Rattle.sbp_world.proofs.Words.Wire.{Packet, header_in, reading, AreBytes, Node, Sent, found_sent, Request, topology_at, end_note, judged_note, no_packet, find, Judged, Event, OutboxState, empty_outbox, Moment, asked, said, terms}
 use Rattle.sbp_world.proofs.Words.Target.{Disk, Told, after_calls, receives, NodeState, received, Whole, TransactionLaw}
 use Rattle.sbp_world.proofs.Words.Initiator.{new_state, receive_step}
-use Rattle.sbp_world.proofs.Words.World.{Arrival, arrived, at_target, delivered, delivered_by, initiator_received, initiators_received, marked, received_by, received_step, target_received, whole_of, with_initiators, handed_out, history_of, moments_behind, MayHappen, happens, new_world, ready_logins, see_line, MayIf, delivered_if, expires, initiator_expires, is_in_flight, may_repeat, refused, target_expired, timed_out, timeout_line, timeout_of, AreEntries, Entry, Run, after, beginning, MayAll, after_all, delivered_at, delivered_next, is_settled, lowest, AreLines, IsLine, Stands, Scene, WorldState, begun, with_note, with_target, without_notes, DeliversMore, IsRun, AreContents}
+use Rattle.sbp_world.proofs.Words.World.{Arrival, arrived, at_target, delivered, delivered_by, initiator_received, initiators_received, marked, received_by, received_step, target_received, whole_of, with_initiators, handed_out, history_of, moments_behind, MayHappen, happens, new_world, ready_logins, see_line, MayIf, delivered_if, expires, initiator_expires, is_in_flight, may_repeat, target_expired, timed_out, timeout_line, timeout_of, AreEntries, Entry, Run, after, beginning, MayAll, after_all, delivered_at, delivered_next, is_settled, lowest, AreLines, IsLine, Stands, Scene, WorldState, begun, with_note, with_target, without_notes, DeliversMore, IsRun, AreContents}
 use Rattle.bus_transactions.proofs.FitJudged.{source_fits}
 use Rattle.sbp_journal.specs.declared.event.Event.TheVariants as events
 use Rattle.sbp_world.specs.Packets as packets

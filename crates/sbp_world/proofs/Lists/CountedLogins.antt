@@ -2,12 +2,12 @@
 -- fewer behind any other decision.
 use Rattle.sbp_world.proofs.Words.Std.{arith, ◌≡◌, ◌∙◌, refl, sym, ap, subst, ℕ, zero, suc, ◌+◌, ◌*◌, ◌<◌, ◌≤◌, ◌==◌, not, Bool, true, false, cond, List, [], ◌∷◌, length, Option, Some, None, Result, Ok, Err, is_none, position, slice_set, position-Some}
 use Rattle.sbp_world.proofs.Words.Wire.{function_word, login_if, FunctionWord}
-use Rattle.sbp_world.proofs.Words.Target.{Entered, Login, LoginRefusal, LoginRequest, Table, back_at, back_step, back_to, enter_at, enter_step, entered, find, fresh_id, id_at, is_held, is_live, is_live_of, is_old, leave_at, leave_step, left_for, next_id, place_at, revived, Function, asked_by, decide, decide_function, key_at, lacks_key, login_decided, unit_exists, with_status, function_of, number_of}
+use Rattle.sbp_world.proofs.Words.Target.{Entered, Login, LoginRefusal, LoginRequest, Table, back_at, back_step, back_to, enter_at, enter_step, entered, find, fresh_id, is_held, is_live, is_live_of, is_old, leave_at, leave_step, left_for, next_id, place_at, revived, Function, asked_by, decide, decide_function, key_at, lacks_key, login_decided, unit_exists, with_status, function_of, number_of}
 use Rattle.sbp_world.proofs.Words.Initiator.{ManagementOrb}
 use Rattle.login_table.specs.declared.login.LoginRefusal.TheVariants as refusals
 use Rattle.login_table.specs.Table as table
 use Rattle.login_table.specs.Table.{is_barred}
-use Rattle.login_table.proofs.Searching.{found}
+use Rattle.login_table.proofs.Searching.{found, within}
 use Rattle.mgmt_agent.specs.declared.decision.Outcome.{Outcome}
 use Rattle.mgmt_agent.specs.declared.function.Function.TheVariants as functions
 use Rattle.mgmt_agent.specs.declared.status.Status.TheVariants as statuses
@@ -47,11 +47,6 @@ set_most [] k x = omega arith
 set_most (y ∷ places) zero x = let one = one_at_most y in omega (arith, one)
 set_most (y ∷ places) (suc k) x = let rest = set_most places k x in omega (arith, rest)
 
-there : (places : List (Option Login)) (k : ℕ) (login : Login) → place_at places k ≡ Some login → k < length places
-there [] k login e = absurd (let no : None ≡ Some login = e in cc)
-there (y ∷ places) zero login e = omega arith
-there (y ∷ places) (suc k) login e = let rest = there places k login e in omega (arith, rest)
-
 none_is : (x : Option Login) → is_none x ≡ true → x ≡ None
 none_is None e = refl
 none_is (Some login) e = absurd (let no : false ≡ true = e in cc)
@@ -71,7 +66,7 @@ left_counts asked places = by (find (is_old asked) places) refl
         let x = found (is_old asked) places k e in
         let held : is_live x.login ≡ false = not_old asked x.login x.passes in
         let at : live_at (place_at places k) ≡ 0 = ap live_at x.stands ∙ held_none x.login held in
-        let c = set_counts places k None (there places k x.login x.stands) in
+        let c = set_counts places k None (within places k x.login x.stands) in
         omega (arith, at, c)
 
 module _ (orb : ManagementOrb) (source eui : ℕ) (t : Table) (keys : List (List ℕ)) where

@@ -144,7 +144,7 @@ is_there : (so : Option Sending) → sender_in so ≡ Some 0 → IsThere so
 is_there (Some packet) e = record { packet = packet; is = refl; from = cc }
 is_there None e = absurd (let x : None ≡ Some 0 = e in cc)
 
-young_at : {past : List Moment} (w : WorldState) (h : Stands past w) (serial : ℕ) (packet : Sending) → (terms (hist past w)).sent serial ≡ Some packet → packet.generation ≤ (terms (hist past w)).generation packet.from
+pub young_at : {past : List Moment} (w : WorldState) (h : Stands past w) (serial : ℕ) (packet : Sending) → (terms (hist past w)).sent serial ≡ Some packet → packet.generation ≤ (terms (hist past w)).generation packet.from
 young_at w h serial packet sent =
     let all = holds h.wire h.reached in
     let honest = all.facts.honest serial packet (ap (λ (x : Terms). x.sent serial) (past_terms w h) ∙ sent) in

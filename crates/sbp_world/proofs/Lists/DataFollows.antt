@@ -8,8 +8,9 @@ use Rattle.sbp_world.proofs.Words.Laws.{is_write_in, access_in_bytes}
 use Rattle.orb_layout.specs.declared.ask.Ask.TheVariants as asks
 use Rattle.orb_layout.specs.declared.ask.FailCause.TheVariants as causes
 use Rattle.sbp_target.specs.declared.purpose.Purpose.TheVariants as purposes
+use Rattle.sbp_world.proofs.Lists.SameAgents.{noted_outbox}
 use Rattle.sbp_world.proofs.Lists.StatusBytes.{written_at, wrote}
-use Rattle.sbp_world.proofs.Lists.StatusFollows.{noted_outbox, noted_same}
+use Rattle.sbp_world.proofs.Lists.StatusFollows.{noted_same}
 use Rattle.sbp_world.proofs.Lists.StatusLosses.{lost_asks, quiet_ahead}
 use Rattle.sbp_world.proofs.Lists.StatusPackets.{step_packets}
 use Rattle.sbp_world.proofs.Lists.StatusReads.{IsOfBody, IsRead, asked_body, body_reads, reads_body}
@@ -125,7 +126,7 @@ module _ (q : ℕ) (b : q < 8) (login : Login) (Fifo : ℕ → ℕ → Type 0) (
 
   told_so : (one : AgentStep) (s : Scene) → S s → S (noted q one s)
   told_so one s h =
-      subst In (sym (ap (λ (o : OutboxState). o.packets) (noted_outbox q b login (Unit {0}) (λ p. m) one s) ∙ step_packets q (A s) one s.outbox)) h
+      subst In (sym (ap (λ (o : OutboxState). o.packets) (noted_outbox q one s) ∙ step_packets q (A s) one s.outbox)) h
 
 -- ---- what follows what a step asked for: it is of no write of data
 module _ (q : ℕ) (b : q < 8) (login : Login) (Fifo : ℕ → ℕ → Type 0) (own : Fifo login.node login.fifo) (step : AgentStep) (P : List Outgoing → Type 0) (more : (packets : List Outgoing) (packet : Outgoing) → P packets → IsSo Fifo quiet new_machine 0 packet → P (packets ++ packet ∷ [])) where

@@ -13,7 +13,7 @@ use Rattle.sbp_world.proofs.Lists.Rises.{Rises}
 use Rattle.sbp_world.proofs.Lists.StatusKnown.{IsKnown, each_from, got_by, known_less, spelled, writes_no_rom}
 use Rattle.sbp_world.proofs.Common.{moments_split}
 
-both_true : (a b : Bool) → a ≡ true → b ≡ true → (a && b) ≡ true
+pub both_true : (a b : Bool) → a ≡ true → b ≡ true → (a && b) ≡ true
 both_true true true e f = refl
 both_true true false e f = f
 both_true false b e f = e

@@ -1,6 +1,6 @@
 -- What a reply answers that an agent gets while it writes an answer: the write of the chunk for which it waits.
 use Rattle.sbp_world.proofs.Words.Std.{◌≡◌, ◌∙◌, sym, ap, subst, ◌<◌, ℕ, suc, Bool, false, List, ◌∷◌, length, Some, true, same_Some}
-use Rattle.sbp_world.proofs.Words.Wire.{LabelParts, Packet, header_in, judging_step, of_response, Sent, found_sent, Access, Moment, asked, request, Terms, opened, terms, Event}
+use Rattle.sbp_world.proofs.Words.Wire.{LabelParts, Packet, header_in, judging_step, of_response, Sent, found_sent, Access, Moment, asked, Terms, opened, terms, Event}
 use Rattle.sbp_world.proofs.Words.Target.{Main, answer_chunk, Disk, which_in, desk_at, answer_in}
 use Rattle.sbp_world.proofs.Words.Initiator.{Answer}
 use Rattle.sbp_world.proofs.Words.Laws.{access_at, answered_at, begun_in, is_under_way, receiver_in, sender_in, agent_at, over, target_at}

@@ -1,5 +1,5 @@
 -- The chunks of a buffer that is laid out for a command (NCITS 325-1998, page tables): one that begins elsewhere stands elsewhere; and a chunk ends with the buffer at most.
-use Rattle.sbp_world.proofs.Words.Std.{arith, ◌≡◌, ◌∙◌, refl, sym, ap, ◌<◌, ◌≤◌, ◌+◌, ◌-◌, ◌==◌, ℕ, nat_lt, min, Bool, true, false, cond, List, [], ◌∷◌, Option, Some, None, nat_tests, false≢true}
+use Rattle.sbp_world.proofs.Words.Std.{arith, ◌≡◌, ◌∙◌, refl, sym, ap, ◌<◌, ◌≤◌, ◌+◌, ◌-◌, ◌==◌, ℕ, nat_lt, min, Bool, true, false, cond, List, [], ◌∷◌, Option, Some, None, nat_tests}
 use Rattle.sbp_world.proofs.Words.Wire.{Cmd}
 use Rattle.sbp_world.proofs.Words.Target.{cut_to}
 use Rattle.sbp_world.proofs.Words.Initiator.{start, behind, Chunk, Segment, bytes_of, chunk, chunk_from, single}

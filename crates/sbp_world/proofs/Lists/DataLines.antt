@@ -4,10 +4,10 @@ use Rattle.sbp_world.proofs.Words.Wire.{LabelParts, Request, id_of, node_of, jud
 use Rattle.sbp_world.proofs.Words.Target.{Disk, NodeState, scene, received, seen, ticked, with_key, tick_step, Purpose, Told}
 use Rattle.sbp_world.proofs.Words.Initiator.{act_step, Turn, expire_step, receive_step, see_step}
 use Rattle.sbp_world.proofs.Words.Laws.{EachMoment}
-use Rattle.sbp_world.proofs.Words.World.{AreOthers, history, handed_out, acted, acted_by, keyed, no_unit, weight_in, handed_all, initiator_learns, reset_line, see_line, sees, target_learns, target_ticks, tick_line, told_seen, with_seen, at_initiator, expires, initiator_expires, inject_line, injected, injected_to, is_in_flight, lose_line, lost, refused, target_expired, target_left, timed_out, timeout_line, timeout_of, asked_for, posted, sent, sent_all, sent_to, told, told_all, Scene, WorldState, initiator_at, with_initiator, with_note, with_target, DataSo, IsDataWrite, Arrival, arrived, at_target, delivered, delivered_by, initiator_received, initiators_received, marked, received_by, received_step, target_received, whole_of, with_initiators}
+use Rattle.sbp_world.proofs.Words.World.{AreOthers, history, handed_out, acted, acted_by, keyed, no_unit, weight_in, handed_all, initiator_learns, reset_line, see_line, sees, target_learns, target_ticks, tick_line, told_seen, with_seen, at_initiator, expires, initiator_expires, inject_line, injected, injected_to, is_in_flight, lose_line, lost, refused, target_expired, timed_out, timeout_line, timeout_of, asked_for, posted, sent, sent_all, sent_to, told, told_all, Scene, WorldState, initiator_at, with_initiator, with_note, with_target, DataSo, IsDataWrite, Arrival, arrived, at_target, delivered, delivered_by, initiator_received, initiators_received, marked, received_by, received_step, target_received, whole_of, with_initiators}
 use Rattle.sbp_world.proofs.Hosts.ActLeft.{act_left}
 use Rattle.sbp_world.proofs.Hosts.Hands.{second_tells, sight_tells}
-use Rattle.sbp_world.proofs.Hosts.Layered.{AreTame, expire_left, is_tame, receive_left}
+use Rattle.sbp_world.proofs.Hosts.Layered.{AreTame, expire_left, is_tame, receive_left, IsFine, others_fine, tame_fine}
 use Rattle.sbp_world.proofs.Hosts.PointSees.{see_left}
 use Rattle.sbp_journal.specs.declared.note.Note.TheVariants as notes
 use Rattle.sbp_journal.specs.declared.side.Side.TheVariants as sides
@@ -55,22 +55,8 @@ plain_on disks o _ ms e h = (tt, h)
 
 -- ---- what a node tells
 
-abbrev IsFine : Side → Type 0
-IsFine (sides.Own note) = is_plain note ≡ true
-IsFine _ = Unit {0}
-
-others_fine : (told : List Side) → AreOthers told → AllByRecursion IsFine told
-others_fine [] h = tt
-others_fine (sides.Own note ∷ later) h = absurd h.0
-others_fine (_ ∷ later) h = (tt, others_fine later h.1)
-
-tame_fine : (told : List Side) → AreTame told → AllByRecursion IsFine told
-tame_fine [] h = tt
-tame_fine (sides.Own note ∷ later) h = (tame_plain note h.0, tame_fine later h.1)
-tame_fine (_ ∷ later) h = absurd h.0
-
 module _ (disks : List Disk) (o : ℕ) (past : List Moment) where
-  one_side : (weight : ℕ) (side : Side) (w : WorldState) → IsFine side → S disks o past w → S disks o past (told weight side w)
+  one_side : (weight : ℕ) (side : Side) (w : WorldState) → IsFine is_plain side → S disks o past w → S disks o past (told weight side w)
   unfolding told
   one_side weight (sides.Own note) w f h = plain_on disks o note (history w past) f h
   one_side weight (sides.Opened place orb) w f h = h
@@ -88,7 +74,7 @@ module _ (disks : List Disk) (o : ℕ) (past : List Moment) where
   one_side weight (sides.Unsolicited place) w f h = (tt, h)
   one_side weight (sides.Unsent place) w f h = (tt, h)
 
-  all_sides : (weight : ℕ) (told : List Side) (w : WorldState) → AllByRecursion IsFine told → S disks o past w → S disks o past (told_all weight told w)
+  all_sides : (weight : ℕ) (told : List Side) (w : WorldState) → AllByRecursion (IsFine is_plain) told → S disks o past w → S disks o past (told_all weight told w)
   unfolding told_all
   all_sides weight [] w f h = h
   all_sides weight (side ∷ later) w f h = all_sides weight later (told weight side w) f.1 (one_side weight side w f.0 h)
@@ -113,14 +99,14 @@ module _ (disks : List Disk) (o : ℕ) (past : List Moment) where
   all_leave from (packet ∷ later) w f h =
       all_leave from later (sent from packet w) (λ e. (f e).1) (leaves_to (node_of w.generations from packet.to) from packet w (λ e. (f e).0) h)
 
-  pub hands : (from weight : ℕ) (outbox : OutboxState) (w : WorldState) → AllByRecursion IsFine outbox.sides → (from ≡ 0 → AllPlain outbox.packets) → S disks o past w → S disks o past (handed_out from weight outbox w)
+  pub hands : (from weight : ℕ) (outbox : OutboxState) (w : WorldState) → AllByRecursion (IsFine is_plain) outbox.sides → (from ≡ 0 → AllPlain outbox.packets) → S disks o past w → S disks o past (handed_out from weight outbox w)
   hands from weight outbox w f g h = all_leave from outbox.packets (told_all weight outbox.sides w) g (all_sides weight outbox.sides w f h)
 
   pub target_hands : (weight : ℕ) (outbox : OutboxState) (w : WorldState) → AreOthers outbox.sides → AllPlain outbox.packets → S disks o past w → S disks o past (handed_out 0 weight outbox w)
-  target_hands weight outbox w f g h = hands 0 weight outbox w (others_fine outbox.sides f) (λ e. g) h
+  target_hands weight outbox w f g h = hands 0 weight outbox w (others_fine is_plain outbox.sides f) (λ e. g) h
 
   pub own_hands : (i weight : ℕ) (outbox : OutboxState) (w : WorldState) → AreTame outbox.sides → S disks o past w → S disks o past (handed_out (suc i) weight outbox w)
-  own_hands i weight outbox w f h = hands (suc i) weight outbox w (tame_fine outbox.sides f) (λ e. absurd (omega (arith, e))) h
+  own_hands i weight outbox w f h = hands (suc i) weight outbox w (tame_fine is_plain tame_plain outbox.sides f) (λ e. absurd (omega (arith, e))) h
 
   pub notes_on : (note : Note) (w : WorldState) → is_plain note ≡ true → S disks o past w → S disks o past (with_note note w)
   notes_on note w e h = plain_on disks o note (history w past) e h

@@ -71,7 +71,7 @@ pick_long : (left : ℕ) (b : Bool) (x y : Option Chunk) → (b ≡ true → 0 <
 pick_long left true x y f g = f refl
 pick_long left false x y f g = g refl
 
-chunk_long : (left limit : ℕ) → 0 < left → 0 < limit → (segments : List Segment) (done : ℕ) → done < bytes_of segments → 0 < (cut_to left (chunk_from segments done limit)).length
+pub chunk_long : (left limit : ℕ) → 0 < left → 0 < limit → (segments : List Segment) (done : ℕ) → done < bytes_of segments → 0 < (cut_to left (chunk_from segments done limit)).length
 chunk_long left limit l k [] done b = absurd (omega (arith, b))
 chunk_long left limit l k (segment ∷ rest) done b =
     pick_long left (nat_lt done segment.length) _ _
@@ -79,7 +79,7 @@ chunk_long left limit l k (segment ∷ rest) done b =
     (λ e. let outside : segment.length ≤ done = grind (arith, nat_tests) in chunk_long left limit l k rest (done - segment.length) (omega (arith, outside, b)))
 
 -- the next chunk of an answer of which not all is written has bytes
-part_chunk : (m : Machine) → IsPart m.written (length m.answer) (bytes_of m.segments) → 0 < answer_chunk m
+pub part_chunk : (m : Machine) → IsPart m.written (length m.answer) (bytes_of m.segments) → 0 < answer_chunk m
 part_chunk m p =
     let more = p.more in
     let fills = p.fills in

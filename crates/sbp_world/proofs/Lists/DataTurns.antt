@@ -14,7 +14,6 @@ use Rattle.sbp_world.proofs.Lists.Judging.{Grown}
 use Rattle.sbp_world.proofs.Lists.StatusSends.{sent_generations, sent_on}
 use Rattle.orb_layout.specs.declared.status.StatusKind.TheVariants as kinds
 use Rattle.sbp_world.proofs.Common.{moments_joined}
-use Rattle.sbp_world.proofs.Lists.StatusOffice.{sides_generations}
 
 -- ---- a history grows
 

@@ -4,7 +4,7 @@ use Rattle.sbp_world.proofs.Words.Wire.{Packet, Stale, Layer, expiring_step, jud
 use Rattle.sbp_world.proofs.Words.Target.{Disk, plain_in, Login, is_live, Told, Purpose, manage, TargetScene, login_at, scene, answer_in, expired, expired_in, received}
 use Rattle.sbp_world.proofs.Words.Initiator.{Expired}
 use Rattle.sbp_world.proofs.Words.Laws.{plain_of, ends, EachMoment}
-use Rattle.sbp_world.proofs.Words.World.{initiator_in, MayAt, MayReceive, MayTell, MayTold, delivered, marked, target_received, whole_of, handed_out, MayHappen, happens, MayIf, delivered_if, expires, initiator_expires, is_in_flight, may_repeat, target_expired, target_left, timed_out, timeout_line, timeout_of, MayNext, delivered_at, delivered_next, lowest, IsLine, Scene, WorldState, begun, with_note, with_target, without_notes, has_list, AreOthers, IsFor, machine_at, DataSo}
+use Rattle.sbp_world.proofs.Words.World.{initiator_in, MayAt, MayReceive, MayTell, MayTold, delivered, marked, target_received, whole_of, handed_out, MayHappen, happens, MayIf, delivered_if, expires, is_in_flight, may_repeat, target_expired, target_left, timed_out, timeout_line, MayNext, delivered_at, delivered_next, lowest, IsLine, Scene, WorldState, begun, with_note, with_target, without_notes, has_list, AreOthers, IsFor, machine_at, DataSo}
 use Rattle.sbp_world.proofs.Lists.AnswerRuns.{answer_on}
 use Rattle.sbp_journal.specs.declared.event.Event.TheVariants as events
 use Rattle.sbp_journal.specs.declared.note.Note.TheVariants as notes

@@ -4,7 +4,6 @@ use Rattle.sbp_world.proofs.Words.Wire.{LabelParts, Packet, header_in, Stale, Fi
 use Rattle.sbp_world.proofs.Words.Target.{Login, Held, Told, Which, Main, Ahead, is_ahead, is_sent, address_error, complete, demand_of, Access, Demand, Desk, Purpose, cut, is_that, new_desk, which_in, NodeState, Scene, desk_at, login_at, scene, answer_in, concluded, expire_agent, expired_by, expired_in, judged_scene, received, received_as, settled, timed_out, Whole, replied_by, replied_to, served_login, whole, accessed_by, answered, enabled, is_barred, serve, served_as}
 use Rattle.sbp_world.proofs.Words.Initiator.{Expired}
 use Rattle.sbp_world.proofs.Words.World.{whole_of, holder, told_all, WorldState, has_list, IsFor, machine_at, WasHad}
-use Rattle.command_agent.specs.declared.phase.Phase.TheVariants as phases
 use Rattle.sbp_journal.specs.declared.cause.CutCause.TheVariants as cuts
 use Rattle.sbp_journal.specs.declared.cause.Cause.TheVariants as ignored
 use Rattle.sbp_journal.specs.declared.cause.Judged.TheVariants as judgements

@@ -1,5 +1,5 @@
 -- The runs that a delivery tells are those that are due, in every run, whoever sent the packet.
-use Rattle.sbp_world.proofs.Words.Std.{◌≡◌, ◌∙◌, refl, sym, ap, subst, ℕ, zero, suc, ◌<◌, nat_eq, not, is_some, true, false, cond, List, [], ◌∷◌, length, Option, Some, None, arith, nat_tests, not-true}
+use Rattle.sbp_world.proofs.Words.Std.{◌≡◌, ◌∙◌, refl, sym, ap, subst, ℕ, zero, suc, ◌<◌, nat_eq, is_some, true, false, cond, List, [], ◌∷◌, length, Option, Some, None, arith, nat_tests, not-true}
 use Rattle.sbp_world.proofs.Words.Wire.{LabelParts, Packet, header_in, AreJudged, ReplyKind, Finding, Layer, judging_step, of_again, of_generation, of_grammar, of_label, of_request, of_response, reply_kind, or_nobody, check_of, Cause, Note, Moment, said, Terms, terms}
 use Rattle.sbp_world.proofs.Words.Target.{AgentStep, Machine, has_present, reply_step, Login, Table, is_live, place_at, Disk, Told, PlainDisk, Purpose, which_in, desk_at, login_at, answer_in, received, received_as, with_layer, plain_in, or_zero}
 use Rattle.sbp_world.proofs.Words.Laws.{told_among, Run, runs_due, runs_in, unit_at, Orb, named, Target, initiator_at, initiator_with, node_in, over, target_at, unit_in, unit_of, turn}

@@ -4,7 +4,7 @@ use Rattle.sbp_world.proofs.Words.Std.{arith, ◌≡◌, ◌∙◌, refl, sym, a
 use Rattle.sbp_world.proofs.Words.Wire.{LabelParts, Packet, header_in, reading, AreJudged, as_sending, Layer, judging_step, of_response, reply_kind, Sent, found_sent, check_of, Note, Moment, said, Sending, Terms, terms}
 use Rattle.sbp_world.proofs.Words.Target.{AgentStep, Which, Machine, reply_step, told_or, Login, Outcome, Disk, Told, answer_of, PlainDisk, Purpose, sent_to, which_in, desk_at, login_at, answer_in, plain_in, MayRun}
 use Rattle.sbp_world.proofs.Words.Initiator.{slot_of, Answer, last_at, last_in, TicketParts, CommandOrb}
-use Rattle.sbp_world.proofs.Words.Laws.{agent_event, agent_turn, got_in, nothing, replies, reply_to, told_among, write_in, Run, run_by, run_of, runs_due, unit_at, Orb, named, named_in, prepared_in, access_at, term_answer, answered_at, packet_at, receiver_in, Agent, TermPurpose, Reply, Target, agent_at, for_agent, for_manager, for_nobody, initiator_at, is_serial, over, plain_for, purpose_of, target_at, unit_of, Turn, turn}
+use Rattle.sbp_world.proofs.Words.Laws.{agent_event, agent_turn, got_in, nothing, replies, reply_to, told_among, write_in, Run, run_by, run_of, runs_due, unit_at, named, named_in, access_at, term_answer, answered_at, packet_at, receiver_in, Agent, TermPurpose, Reply, Target, agent_at, for_agent, for_manager, for_nobody, initiator_at, is_serial, over, plain_for, purpose_of, target_at, unit_of, Turn, turn}
 use Rattle.sbp_world.proofs.Words.World.{ticket_of, Scene, WorldState, StepsAlike, TellsAlike, has_list, AreAgentsAt, AreHeldAt, IsForAgent, IsHanded, AreRows, name_in}
 use Rattle.bus_memory.proofs.Found.{slot_of_law}
 use Rattle.sbp_bus.specs.Telling as bus

@@ -32,7 +32,7 @@ format_by : (b : Bool) → ◌≡◌ {A = ℕ} (cond b 3 0) 3 → b ≡ true
 format_by true e = refl
 format_by false e = absurd (omega (arith, e))
 
-some_sent : (found : Option Sending) (node : ℕ) → is_serial (receiver_in found) node ≡ true → (packet : Sending) × (found ≡ Some packet)
+pub some_sent : (found : Option Sending) (node : ℕ) → is_serial (receiver_in found) node ≡ true → (packet : Sending) × (found ≡ Some packet)
 some_sent None node e = untrue e
 some_sent (Some packet) node e = (packet, refl)
 
@@ -40,7 +40,7 @@ three : (found : Option Request) (orb : CommandOrb) → IsSomeAnd found (λ requ
 three None orb e = absurd e
 three (Some request) orb e = e
 
-told_from : (later past : List Moment) → Told (later ++ past) → Told past
+pub told_from : (later past : List Moment) → Told (later ++ past) → Told past
 told_from [] past t = t
 told_from (m ∷ later) past t = told_from later past (told_before m (later ++ past) t)
 

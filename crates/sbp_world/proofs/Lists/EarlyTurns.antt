@@ -1,6 +1,7 @@
 -- Over a turn that leaves the initiators, or the target and who has its places, what an agent waits for to read in a slot is of the ORB that was prepared
 -- there before the turn.
-use Rattle.sbp_world.proofs.Words.Std.{arith, ◌≡◌, ◌∙◌, sym, ap, subst, ◌<◌, ℕ, suc, Bool, true, false, List, ◌++◌, length, Option, Some, None, slice_index_or, same_Some}
+use Rattle.sbp_world.proofs.Common.{same_node}
+use Rattle.sbp_world.proofs.Words.Std.{arith, ◌≡◌, ◌∙◌, sym, ap, subst, ◌<◌, ℕ, Bool, true, false, List, ◌++◌, length, Option, Some, None, slice_index_or, same_Some}
 use Rattle.sbp_world.proofs.Words.Wire.{Holder, holder_at, Access, Moment, Cmd}
 use Rattle.sbp_world.proofs.Words.Target.{Which, Machine, Disk, NodeState, desk_at}
 use Rattle.sbp_world.proofs.Words.Initiator.{Window, IfShare, window_at, slot_of_table, InitiatorState, new_state}
@@ -20,9 +21,6 @@ use Rattle.sbp_world.proofs.Lists.ReadSlots.{IsIn, is_in, stands}
 use Rattle.sbp_world.proofs.Lists.Sites.{IsPrepared, Site, Waiting, waiting}
 use Rattle.sbp_world.proofs.Lists.Slots.{IsFilled}
 use Rattle.sbp_world.proofs.Lists.Told.{AgentAt}
-
-same_number : (i j : ℕ) → Some (suc i) ≡ Some (suc j) → i ≡ j
-same_number i j e = cc
 
 slot_small : (offset slot : ℕ) (found : Option Window) → IfShare offset found → slot_in found ≡ Some slot → slot < 32
 slot_small offset slot (Some (windows.Orb k)) h e = let same = same_Some k slot e in let b = h.0 in omega arith
@@ -67,7 +65,7 @@ module _ (wild : ℕ → Bool) (units ready : ℕ) (has : 0 < units) (start : Li
     fifo = fifo_in (term_login (over (target_at start now)) place)
 
     i_is : i ≡ j
-    i_is = same_number i j (sym r.to ∙ asked.to)
+    i_is = same_node i j (sym r.to ∙ asked.to)
 
     own : wild j ≡ false
     own = ap wild (sym i_is) ∙ r.own

@@ -1,6 +1,6 @@
 -- What the target tells in a call of the ends of ORBs: of those but with the status failed none; or, as it goes on by the answer to a transaction of an agent, one, that of
 -- the agent's present ORB, behind the run and the death of this agent alone.
-use Rattle.sbp_world.proofs.Words.Std.{arith, ◌≡◌, ◌∙◌, refl, sym, ap, subst, ℕ, ◌+◌, ◌<◌, Bool, true, false, cond, List, [], ◌∷◌, ◌++◌, length, Option, Some, None, Result, Ok, Err, slice_set, get_or-set_same}
+use Rattle.sbp_world.proofs.Words.Std.{arith, ◌≡◌, ◌∙◌, refl, sym, ap, subst, ℕ, ◌<◌, Bool, true, false, cond, List, [], ◌∷◌, ◌++◌, length, Option, Some, None, Result, Ok, Err, slice_set, get_or-set_same}
 use Rattle.sbp_world.proofs.Words.Wire.{LabelParts, Packet, header_in, Stale, Finding, Layer, answering_step, expiring_step, judging_step, of_again, of_generation, of_grammar, of_label, of_request, of_response, Sent, CutCause, Judged, Side, OutboxState, empty_outbox}
 use Rattle.sbp_world.proofs.Words.Target.{Login, IsSound, Outcome, Disk, disk_at, Held, Told, left_by, PlainDisk, Phase, AgentStep, PointRefusal, Which, Ahead, Main, Machine, is_ahead, state_in, ahead_lost, asks, doorbell_step, is_reset, lost_step, main_lost, quiet, reply_step, Access, Demand, demand_of, Desk, Purpose, cut, follow, noted, told_cut, expired_desk, new_desk, point_desk, taken, which_in, manage, NodeState, Scene, desk_at, login_at, scene, with_agent, with_desk, answer_in, concluded, expire_agent, expired, expired_by, expired_in, expired_with, judged_scene, received, received_as, timed_out, with_layer, Whole, advance, advanced_with, announced_by, came, changed_by, follow_all, plain_in, step_replied, replied_by, replied_to, replied_with, served_login, stage, whole, answer_step, answered_by, with_side, accessed_by, answered, asked_in, enabled, is_barred, point, pointed_by, served_step, ring, rung_by, serve, served_as, start, orb_of, tell_dead, tell_ended, tell_ran, tell_step}
 use Rattle.sbp_world.proofs.Words.Initiator.{Ask, FailCause, OrbPointer, StatusKind, Answer, Expired}

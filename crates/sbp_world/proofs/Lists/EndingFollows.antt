@@ -25,7 +25,7 @@ use Rattle.sbp_target.specs.Telling.{orb_of, tell_dead, tell_ended, tell_ran, te
 use Rattle.sbp_target.specs.Units.{announce_from}
 use Rattle.sbp_world.proofs.Lists.BusyFollows.{AreOf, IsOf}
 use Rattle.sbp_world.proofs.Lists.EndingSteps.{AreEnding, is_last, listed, lost_ending, lost_rests, no_more}
-use Rattle.sbp_world.proofs.Lists.SameAgents.{AreSame, announce_alike, follow_alike, noted_same, set_here, set_there}
+use Rattle.sbp_world.proofs.Lists.SameAgents.{AreSame, announce_alike, follow_alike, noted_same, set_here, set_there, noted_outbox}
 
 -- ---- the ends that are told
 abbrev pub one_ending : Side → List StatusKind
@@ -104,10 +104,6 @@ module _ (q : ℕ) (b : q < 8) (machines : ℕ → Machine) (Was : Type 0) where
       let ran = tell_ran q m step.ran o in
       ended_ends step.ended m (tell_dead q step.dead ran) ∙ ap (λ xs. xs ++ listed step.ended) (dead_ends step.dead ran ∙ ran_ends step.ran m o)
 
-  noted_outbox : (step : AgentStep) (s : Scene) → (noted q step s).outbox ≡ tell_step q (desk_at s.node q).agent step s.outbox
-  unfolding noted
-  noted_outbox step s = refl
-
   -- one that is not told yet
   pub record Steps (step : AgentStep) (s : Scene) : Type 0 where
     pub of : AreOf q s.outbox.sides
@@ -119,7 +115,7 @@ module _ (q : ℕ) (b : q < 8) (machines : ℕ → Machine) (Was : Type 0) where
   pub noted_acts : (step : AgentStep) (s : Scene) → Steps step s → Acts (noted q step s)
   noted_acts step s m =
       let a = noted_same q b step s m.desks in
-      let e : (noted q step s).outbox.sides ≡ (tell_step q (A s) step s.outbox).sides = ap (λ (o : OutboxState). o.sides) (noted_outbox step s) in
+      let e : (noted q step s).outbox.sides ≡ (tell_step q (A s) step s.outbox).sides = ap (λ (o : OutboxState). o.sides) (noted_outbox q step s) in
       let told : ends_in (noted q step s).outbox.sides ≡ ends_in s.outbox.sides ++ listed step.ended = ap ends_in e ∙ step_ends step (A s) s.outbox in
       record {
         of = subst (AreOf q) (sym e) (step_of step (A s) s.outbox m.of);

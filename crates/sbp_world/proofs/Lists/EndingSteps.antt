@@ -20,8 +20,8 @@ use Rattle.rbc_disk.specs.declared.command.Outcome.TheVariants as outcomes
 use Rattle.rbc_disk.specs.Runs.{Told, need_of}
 use Rattle.rbc_disk.specs.Units.{PlainDisk}
 use Rattle.command_agent.specs.Checks.{death_by, reads_table, refusal, verdict}
-use Rattle.command_agent.specs.Machine.{Machine, chunk_of, is_ahead, plan_of}
-use Rattle.command_agent.specs.Steps.{advanced, ahead_lost, ahead_of, ahead_read, ahead_step, answer_chunk, answer_grown, answer_step, asks, check_step, checked, chunk_written, data_grown, data_read, data_step, elements_read, end_step, follow_step, judge_step, judged, lost_step, main_lost, next_read, orb_read, quiet, ran_as, reply_step, reread_step, run_step, sent, served, status_phase, status_written, table_read, told_or, turn_step, unread_buffer, with_outcome}
+use Rattle.command_agent.specs.Machine.{Machine, chunk_of, is_ahead, plan_of, state_in}
+use Rattle.command_agent.specs.Steps.{advanced, ahead_lost, ahead_of, ahead_read, ahead_step, answer_chunk, answer_grown, answer_step, asks, check_step, checked, chunk_written, data_grown, data_read, data_step, elements_read, end_step, follow_step, is_reset, judge_step, judged, lost_step, main_lost, next_read, orb_read, quiet, ran_as, reply_step, reread_step, run_step, sent, served, status_phase, status_written, table_read, told_or, turn_step, unread_buffer, with_outcome}
 use Rattle.command_agent.specs.declared.phase.Phase.{Phase}
 use Rattle.command_agent.specs.declared.phase.Phase.TheVariants as phases
 use Rattle.command_agent.specs.declared.phase.ReadAhead.{ReadAhead}
@@ -66,6 +66,11 @@ last_over phases.Answering e = absurd (false≢true e)
 last_over phases.WritingStatus e = absurd (false≢true e)
 last_over phases.ReadingNext e = absurd (false≢true e)
 last_over phases.Suspended e = absurd (false≢true e)
+
+-- such an agent is not in RESET
+pub over_up : (phase : Phase) → is_over phase ≡ true → not (is_reset (state_in phase)) ≡ true
+over_up phases.Reset e = absurd (false≢true e)
+over_up phase e = refl
 
 pub ends_over : (kind : StatusKind) (phase : Phase) → EndsIn kind phase → is_over phase ≡ true
 ends_over kinds.Failed phase e = last_over phase e

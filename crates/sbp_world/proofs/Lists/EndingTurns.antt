@@ -35,7 +35,7 @@ use Rattle.sbp_target.proofs.Histories.Calling.{Good}
 use Rattle.sbp_world.proofs.Lists.EndingFollows.{Acts, Steps, alike, announce_from_acts, asks_acts, follow_acts}
 use Rattle.sbp_world.proofs.Lists.EndingSteps.{AreEnding, first_ending, first_was, is_last, listed, lost_ending, lost_rests, reply_ends, reply_rests}
 use Rattle.sbp_world.proofs.Lists.Pointers.{not_taken}
-use Rattle.sbp_world.proofs.Lists.SameAgents.{AreSame, are_self, set_here, set_there}
+use Rattle.sbp_world.proofs.Lists.SameAgents.{set_here, set_there, changed_same}
 
 -- ---- a doorbell
 rings_in : (phase : Phase) (m : Machine) → is_last (doorbell_step (record m { phase = phase })).1.phase ≡ false → is_last phase ≡ false
@@ -82,10 +82,6 @@ module _ (w : WorldState) (g : Good w.target) (layer : Layer Purpose) where
 
     abbrev pub By : Scene → Type 0
     By s = Acts q b M Was s
-
-    changed_same : (x : Bool) (unit place : ℕ) (one : NodeState) → AreSame one (changed_by x unit place one)
-    changed_same true unit place one = record { desks = refl; agents = λ p. refl }
-    changed_same false unit place one = are_self one
 
     announced_acts : (x : Bool) (unit : ℕ) (s : Scene) → By s → By (announced_by x unit q s)
     announced_acts true unit s m = announce_from_acts q b M Was 8 0 unit q (omega arith) s m

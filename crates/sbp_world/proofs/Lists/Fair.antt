@@ -5,7 +5,6 @@ use Rattle.sbp_world.proofs.Words.Target.{Disk}
 use Rattle.sbp_world.proofs.Words.Laws.{EachMoment}
 use Rattle.sbp_world.proofs.Words.World.{ready_logins, WorldState, AnswersAt}
 use Rattle.sbp_world.proofs.Agents.Management.Holding.{past_terms}
-use Rattle.sbp_journal.specs.declared.note.Note.TheVariants as notes
 use Rattle.sbp_world.proofs.Lists.AnswerGots.{answers_at}
 use Rattle.sbp_world.proofs.Lists.Calm.{injects_before}
 use Rattle.sbp_world.proofs.Lists.Courses.{EveryPlace, Keeps, at_between, at_lines}

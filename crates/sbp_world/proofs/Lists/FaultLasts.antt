@@ -10,26 +10,19 @@ use Rattle.sbp_laws.specs.OrderLaw.{OrderLaw}
 use Rattle.sbp_laws.specs.Terms.{ended_status, ends}
 use Rattle.sbp_laws.specs.Turns.{EachMoment}
 use Rattle.sbp_world.specs.Lists.Faults.{EndsAlive, has_fault, is_fault}
+use Rattle.sbp_world.proofs.Common.{or_left, or_right}
 
 pub no_status : (status : StatusKind) → None ≡ Some status → ⊥
 no_status status e = cc
 
-or_one : (a b : Bool) → a ≡ true → (a || b) ≡ true
-or_one true b e = refl
-or_one false b e = absurd (false≢true e)
-
-or_two : (a b : Bool) → b ≡ true → (a || b) ≡ true
-or_two true b e = refl
-or_two false b e = e
-
 module _ (i n k : ℕ) (status : StatusKind) (fault : is_fault status ≡ true) where
   -- its list has such an end
   by_fault : (past : List Moment) (j m l : ℕ) (st : StatusKind) → (ended_status past i n k ≡ Some status → has_fault past i n ≡ true) → (x y z : Bool) → nat_eq i j ≡ x → nat_eq n m ≡ y → cond x (cond y (cond z (Some st) (ended_status past i n k)) (ended_status past i n k)) (ended_status past i n k) ≡ Some status → cond x (cond y (is_fault st || has_fault past j m) (has_fault past i n)) (has_fault past i n) ≡ true
-  by_fault past j m l st again true true true f g e = or_one (is_fault st) (has_fault past j m) (ap is_fault (same_Some st status e) ∙ fault)
+  by_fault past j m l st again true true true f g e = or_left (is_fault st) (has_fault past j m) (ap is_fault (same_Some st status e) ∙ fault)
   by_fault past j m l st again true true false f g e =
       let same_i : j ≡ i = grind (arith, nat_tests) in
       let same_n : m ≡ n = grind (arith, nat_tests) in
-      or_two (is_fault st) (has_fault past j m) (ap (λ a. has_fault past a m) same_i ∙ (ap (has_fault past i) same_n ∙ again e))
+      or_right (is_fault st) (has_fault past j m) (ap (λ a. has_fault past a m) same_i ∙ (ap (has_fault past i) same_n ∙ again e))
   by_fault past j m l st again true false z f g e = again e
   by_fault past j m l st again false y z f g e = again e
 

@@ -37,7 +37,7 @@ use Rattle.sbp_world.proofs.Lists.Histories.{after_lines, between}
 use Rattle.sbp_world.proofs.Lists.ListsProved.{closing}
 use Rattle.sbp_world.proofs.Lists.LiveGiven.{ShortLaw}
 use Rattle.sbp_world.proofs.Lists.Passing.{PassLaw}
-use Rattle.sbp_world.proofs.Lists.PlaceOwners.{Owns, walk_owns}
+use Rattle.sbp_world.proofs.Lists.PlaceOwners.{walk_owns}
 use Rattle.sbp_world.proofs.Lists.Running.{order_part}
 use Rattle.sbp_world.proofs.Lists.TameWalks.{still_after, still_between}
 use Rattle.sbp_world.proofs.Lists.TurnCalls.{TurnFrom}

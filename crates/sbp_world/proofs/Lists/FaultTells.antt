@@ -25,7 +25,7 @@ use Rattle.sbp_world.proofs.Lists.Extends.{all_told}
 use Rattle.sbp_world.proofs.Lists.OpenWorlds.{hist_on}
 use Rattle.sbp_world.proofs.Lists.Passing.{PassLaw}
 use Rattle.sbp_world.proofs.Lists.UnrunTerms.{passes_from}
-use Rattle.sbp_world.proofs.Common.{moments_joined}
+use Rattle.sbp_world.proofs.Common.{moments_joined, or_left, or_right}
 
 -- ---- of ends of these kinds
 abbrev pub has_faulty : List StatusKind → Bool
@@ -138,14 +138,6 @@ module _ (past : List Moment) (q : ℕ) where
     abbrev Faulty : WorldState → List Side → Type 0
     Faulty x told_sides = (has_fault (hist past x) i n ≡ true) ⊎ ((i ≡ (holder x q).initiator) × (has_faulty (ends_in told_sides) ≡ true))
 
-    more_faulty : (a b : Bool) → b ≡ true → (a || b) ≡ true
-    more_faulty true b e = refl
-    more_faulty false b e = e
-
-    first_faulty : (a b : Bool) → a ≡ true → (a || b) ≡ true
-    first_faulty true b e = refl
-    first_faulty false b e = absurd (false≢true e)
-
     over : (side : Side) (later : List Side) (x : WorldState) → IsOf q side → one_ending side ≡ [] → Faulty (told 0 side x) later → Faulty x (side ∷ later)
     over side later x h none (inl e) = inl (sym ((quiet_side side x h none).faults i n) ∙ e)
     over side later x h none (inr e) = inr (e.0 ∙ one_holder past q side x h, ap (λ xs. has_faulty (xs ++ ends_in later)) none ∙ e.1)
@@ -156,8 +148,8 @@ module _ (past : List Moment) (q : ℕ) where
       where
         by : (has_fault (hist past x) i n ≡ true) ⊎ IsNow i (holder x place).initiator status → Faulty x (sides.Ended place orb status ∷ later)
         by (inl f) = inl f
-        by (inr f) = inr (f.0 ∙ ap (λ p. (holder x p).initiator) at, first_faulty (is_fault status) (has_faulty (ends_in later)) f.1)
-    ended place orb status later x at (inr e) = inr (e.0, more_faulty (is_fault status) (has_faulty (ends_in later)) e.1)
+        by (inr f) = inr (f.0 ∙ ap (λ p. (holder x p).initiator) at, or_left (is_fault status) (has_faulty (ends_in later)) f.1)
+    ended place orb status later x at (inr e) = inr (e.0, or_right (is_fault status) (has_faulty (ends_in later)) e.1)
 
     by_side : (side : Side) (later : List Side) (x : WorldState) → IsOf q side → Faulty (told 0 side x) later → IsWhich side → Faulty x (side ∷ later)
     by_side side later x h f (is_end place orb status e) = subst (λ s. Faulty x (s ∷ later)) (sym e) (ended place orb status later x (subst (IsOf q) e h) (subst (λ s. Faulty (told 0 s x) later) e f))

@@ -31,7 +31,7 @@ use Rattle.sbp_world.proofs.Lists.BusyCuts.{AreBeside, WasCut}
 use Rattle.sbp_world.proofs.Lists.BusyTold.{cut_told}
 use Rattle.sbp_world.proofs.Lists.EndingCalls.{Called, acts, call_called, rests}
 use Rattle.sbp_world.proofs.Lists.EndingFollows.{Acts, ends_in}
-use Rattle.sbp_world.proofs.Lists.EndingSteps.{AreEnding, ends_over, is_last, is_over}
+use Rattle.sbp_world.proofs.Lists.EndingSteps.{AreEnding, ends_over, is_last, is_over, over_up}
 use Rattle.sbp_world.proofs.Lists.Extends.{handed_extends}
 use Rattle.sbp_world.proofs.Lists.FaultTells.{AliveAt, alive_told, faults_told, faulty_last, has_faulty, one_end, rest_alive}
 use Rattle.sbp_world.proofs.Lists.OpenWorlds.{hist_on}
@@ -68,18 +68,6 @@ last_up_in phases.Answering e = absurd (false≢true e)
 last_up_in phases.WritingStatus e = absurd (false≢true e)
 last_up_in phases.ReadingNext e = absurd (false≢true e)
 last_up_in phases.Suspended e = absurd (false≢true e)
-
-over_up_in : (phase : Phase) → is_over phase ≡ true → not (is_reset (state_in phase)) ≡ true
-over_up_in phases.WritingStatus e = refl
-over_up_in phases.WritingLastStatus e = refl
-over_up_in phases.Dead e = refl
-over_up_in phases.Reset e = absurd (false≢true e)
-over_up_in phases.Fetching e = absurd (false≢true e)
-over_up_in phases.ReadingTable e = absurd (false≢true e)
-over_up_in (phases.ReadingData wanted) e = absurd (false≢true e)
-over_up_in phases.Answering e = absurd (false≢true e)
-over_up_in phases.ReadingNext e = absurd (false≢true e)
-over_up_in phases.Suspended e = absurd (false≢true e)
 
 -- ---- moments without an end
 pub record AreStill (wild : ℕ → Bool) (later ms : List Moment) : Type 0 where
@@ -329,7 +317,7 @@ module _ (wild : ℕ → Bool) (past : List Moment) (w v : WorldState) (ground :
       module _ (was : Was) (ended : is_over (desk_at t.node q).agent.phase ≡ true) where
         up_q : IsUp v j q
         up_q =
-            let up = over_up_in (machine_at v q).phase (ap (λ (m : Machine). is_over m.phase) (machine_now q) ∙ ended) in
+            let up = over_up (machine_at v q).phase (ap (λ (m : Machine). is_over m.phase) (machine_now q) ∙ ended) in
             record { up = up; own = owner q b up ∙ sym j_is }
 
         not_last : wild j ≡ false → IsLastFor w j → ⊥

@@ -5,7 +5,6 @@ use Rattle.sbp_world.proofs.Words.Wire.{SerialsCount, rcode_of, Moment, asked, s
 use Rattle.sbp_world.proofs.Words.Laws.{closed_by}
 use Rattle.sbp_journal.specs.Transactions.{no_packet}
 use Rattle.sbp_journal.specs.declared.cause.Cause.TheVariants as causes
-use Rattle.sbp_journal.specs.declared.event.Event.TheVariants as events
 use Rattle.sbp_journal.specs.declared.note.Note.TheVariants as notes
 use Rattle.sbp_world.proofs.Hosts.Remaining.{remains}
 use Rattle.sbp_world.proofs.Hosts.SentMoments.{sent_below, serials_from}

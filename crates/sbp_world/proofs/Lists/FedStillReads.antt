@@ -25,7 +25,7 @@ use Rattle.sbp_world.proofs.Lists.OrbNotes.{GotBrings}
 use Rattle.sbp_world.proofs.Lists.OrbSteps.{holds_read}
 use Rattle.sbp_world.proofs.Lists.Sites.{Site, waiting}
 use Rattle.sbp_world.proofs.Lists.StillReads.{IsHad, named_over, still_had}
-use Rattle.sbp_world.proofs.Common.{untrue}
+use Rattle.sbp_world.proofs.Common.{untrue, same_node}
 
 -- ---- what is known of the response that brought an ORB
 -- it is the one prepared last in its slot still
@@ -245,9 +245,6 @@ module _ (units ready : ℕ) (has : 0 < units) (start : List Disk) {past : List 
 
   -- ---- what a packet brings
   module _ (ms : List Moment) (same : over (target_at start ms) ≡ T) (sent : (terms ms).sent ≡ (terms before).sent) (there : (i slot : ℕ) → prepared_in ms i slot ≡ prepared_in before i slot) (quiet : (i : ℕ) → IsCalm before i → IsCalm ms i) (serial : ℕ) (front : List Moment) (is : front ++ said (notes.Got serial) ∷ ms ≡ now) where
-    same_node : (i j : ℕ) → Some (suc i) ≡ Some (suc j) → i ≡ j
-    same_node i j e = cc
-
     just_known : (p : ℕ) → p < 8 → IsCalm before (initiator_in w p) → (at : ℕ) (orb : CommandOrb) (x : IsJustBrought start ms serial p at orb) → KnownHad start now before w p at orb x.from.brought.response x.from.brought.earlier
     just_known p b calm at orb x =
         let y = x.from in

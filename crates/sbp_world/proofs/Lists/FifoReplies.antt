@@ -15,7 +15,7 @@ use Rattle.sbp_journal.specs.declared.note.Note.TheVariants as notes
 use Rattle.sbp_journal.specs.declared.operation.FunctionWord.TheVariants as functions
 use Rattle.sbp_journal.specs.declared.side.Side.TheVariants as sides
 use Rattle.sbp_world.proofs.Lists.StatusManaged.{Small, Unread, decide_small, response_unread}
-use Rattle.sbp_world.proofs.Lists.StatusSteps.{none_wrote, read_wrote}
+use Rattle.sbp_world.proofs.Lists.StatusSteps.{read_wrote}
 
 none_op : (op : Operation) → None ≡ Some op → ⊥
 none_op op e = cc

@@ -1,6 +1,6 @@
 -- A delivery to the target, and a time-out of its own: each block that it writes then to a FIFO of an initiator that injected no packets, in the name of a place of management, is
 -- of its operation. An agent that makes a step writes none, for the ORB that ended is in a slot.
-use Rattle.sbp_world.proofs.Words.Std.{◌≡◌, ◌∙◌, refl, sym, ap, subst, ◌<◌, ◌+◌, ℕ, suc, nat_lt, Bool, true, false, cond, List, [], ◌∷◌, ◌++◌, map, length, Option, Some, None, Ok, false≢true}
+use Rattle.sbp_world.proofs.Words.Std.{◌≡◌, ◌∙◌, refl, sym, ap, subst, ◌<◌, ◌+◌, ℕ, suc, nat_lt, Bool, true, false, cond, List, [], ◌∷◌, ◌++◌, map, length, Option, Some, None, Ok}
 use Rattle.sbp_world.proofs.Words.Wire.{LabelParts, Packet, header_in, Layer, judging_step, of_request, of_response, Sent, GenerationsState, node_of, judged_note, holder_at, list_in, Judged, Note, Outgoing, OutboxState, Moment, said}
 use Rattle.sbp_world.proofs.Words.Target.{AgentStep, Which, Ahead, Main, lost_step, point_step, reply_step, Login, Table, is_live, place_at, ManagerStep, Operation, Disk, Held, Told, Purpose, which_in, ask_manager, decided_by, manage, managed_in, managed_with, tell_failed, with_manager, Scene, desk_at, login_at, scene, answer_in, received, timed_out, Whole, plain_in, is_barred, demand_of}
 use Rattle.sbp_world.proofs.Words.Initiator.{slot_of, start_of, window_at, Ask, OrbPointer, FailCause, Expired, last_in, TicketParts}

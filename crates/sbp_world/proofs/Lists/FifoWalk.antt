@@ -3,7 +3,7 @@
 use Rattle.sbp_world.proofs.Words.Std.{arith, ◌≡◌, ◌∙◌, refl, sym, ap, subst, ◌<◌, ◌≤◌, ◌+◌, ◌^◌, ℕ, suc, nat_eq, Bool, true, false, cond, List, [], ◌∷◌, length, Option, Some, None, Result, Ok, Err}
 use Rattle.sbp_world.proofs.Words.Wire.{LabelParts, Packet, header_in, reading, AreBytes, is_reset, Node, Stale, Finding, Layer, expiring_step, judging_step, of_again, of_generation, of_grammar, of_label, of_request, of_response, Sent, found_sent, Request, GenerationsState, node_of, topology_at, end_note, judged_note, no_packet, find, Judged, Event, empty_outbox, Moment, asked, terms}
 use Rattle.sbp_world.proofs.Words.Target.{Operation, Disk, Told, Purpose, NodeState, TargetScene, scene, answer_in, expired, expired_in, received, received_as, with_layer, Whole, is_barred, Access, demand_of, TransactionLaw}
-use Rattle.sbp_world.proofs.Words.World.{MayAt, MayReceive, MayTold, delivered, marked, target_received, whole_of, handed_out, MayHappen, happens, MayIf, delivered_if, expires, initiator_expires, is_in_flight, may_repeat, refused, target_expired, target_left, timed_out, timeout_line, timeout_of, MayNext, delivered_at, delivered_next, lowest, told_all, IsLine, Stands, Scene, WorldState, begun, with_note, with_target, without_notes, has_list, delivered_office, Agrees, Office, at_rest, AreOthers, AreFifosClear, IsClearFifo, IsFor, machine_at}
+use Rattle.sbp_world.proofs.Words.World.{MayAt, MayReceive, MayTold, delivered, marked, target_received, whole_of, handed_out, MayHappen, happens, MayIf, delivered_if, expires, initiator_expires, is_in_flight, may_repeat, target_expired, target_left, timed_out, timeout_line, timeout_of, MayNext, delivered_at, delivered_next, lowest, told_all, IsLine, Stands, Scene, WorldState, begun, with_note, with_target, without_notes, has_list, delivered_office, Agrees, Office, at_rest, AreOthers, AreFifosClear, IsClearFifo, IsFor, machine_at}
 use Rattle.bus_transactions.proofs.FitJudged.{bytes_of, source_fits, spelled}
 use Rattle.sbp_journal.specs.declared.event.Event.TheVariants as events
 use Rattle.sbp_journal.specs.declared.note.Note.TheVariants as notes

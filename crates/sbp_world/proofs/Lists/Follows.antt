@@ -1,5 +1,5 @@
 -- What follows a step of the agent of a place: it is told, and so is what is lost for want of labels; the other places are left alone.
-use Rattle.sbp_world.proofs.Words.Std.{◌≡◌, ◌∙◌, refl, sym, ap, subst, ◌<◌, ◌≤◌, ℕ, ◌+◌, Bool, true, false, cond, List, [], ◌∷◌, ◌++◌, length, Option, Some, None, arith, length-set}
+use Rattle.sbp_world.proofs.Words.Std.{◌≡◌, ◌∙◌, sym, ap, subst, ◌<◌, ◌≤◌, ℕ, ◌+◌, Bool, true, false, cond, List, [], ◌∷◌, ◌++◌, length, Option, Some, None, arith, length-set}
 use Rattle.sbp_world.proofs.Words.Wire.{OutboxState, Moment, said, Note}
 use Rattle.sbp_world.proofs.Words.Target.{Login, Outcome, AgentStep, Which, Machine, lost_step, ahead_beside, main_beside, disk, Desk, follow, noted, lost_at, NodeState, Scene, desk_at, scene, with_agent, with_side, orb_of, tell_dead, tell_ended, tell_ran, tell_step, announce_from}
 use Rattle.sbp_world.proofs.Words.Initiator.{FailCause, StatusKind}
@@ -14,7 +14,7 @@ use Rattle.sbp_world.proofs.Lists.Later.{had_next}
 use Rattle.sbp_world.proofs.Lists.Told.{Apart, Behind, Due, Others, behind, dead_fresh, ended_fresh, i, ran_fresh, step_fresh, step_told}
 use Rattle.sbp_world.proofs.Lists.Passing.{PassLaw}
 use Rattle.sbp_world.proofs.Agents.Telling.{told_snoc}
-use Rattle.sbp_world.proofs.Lists.SameAgents.{AreSame, announce_alike, follow_alike, noted_same, set_here, set_there}
+use Rattle.sbp_world.proofs.Lists.SameAgents.{AreSame, announce_alike, follow_alike, noted_same, set_here, set_there, noted_outbox}
 
 agent_here : (node : NodeState) (k : ℕ) (m : Machine) → k < length node.desks → (desk_at (with_agent node k m) k).agent ≡ m
 agent_here node k m b = ap (λ (x : Desk). x.agent) (set_here node k (record (desk_at node k) { agent = m }) b)
@@ -88,17 +88,13 @@ module _ (wild : ℕ → Bool) (past : List Moment) (u v : WorldState) (q n : �
       let c = dead_fresh wild past v q n machines step.dead a in
       ended_says step.ended m (tell_dead q step.dead (tell_ran q m step.ran o)) c (dead_says step.dead (tell_ran q m step.ran o) a (ran_says step.ran m o fresh e))
 
-  noted_outbox : (step : AgentStep) (s : Scene) → (noted q step s).outbox ≡ tell_step q (desk_at s.node q).agent step s.outbox
-  unfolding noted
-  noted_outbox step s = refl
-
   pub noted_mid : (step : AgentStep) (s : Scene) → Pending step s → Mid (noted q step s)
   noted_mid step s p =
       let m = (desk_at s.node q).agent in
       let a = noted_same q b step s p.desks in
       record {
         fresh = step_fresh wild past v q n machines (step, m) p.fresh;
-        is = looks_as (told_all 0 (noted q step s).outbox.sides u) (told_all 0 (tell_step q m step s.outbox).sides u) (record v { fresh = step_fresh wild past v q n machines (step, m) p.fresh }) (ap (λ (o : OutboxState). told_all 0 o.sides u) (noted_outbox step s)) (step_says step m s.outbox p.fresh p.is);
+        is = looks_as (told_all 0 (noted q step s).outbox.sides u) (told_all 0 (tell_step q m step s.outbox).sides u) (record v { fresh = step_fresh wild past v q n machines (step, m) p.fresh }) (ap (λ (o : OutboxState). told_all 0 o.sides u) (noted_outbox q step s)) (step_says step m s.outbox p.fresh p.is);
         desks = a.desks ∙ p.desks;
         same = λ k f. a.agents k ∙ p.same k f;
         after = subst (λ x. Behind wild past v q n machines x (step_fresh wild past v q n machines (step, m) p.fresh)) (sym (a.agents q))

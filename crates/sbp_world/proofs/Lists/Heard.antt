@@ -135,7 +135,7 @@ module _ (units ready : ℕ) (has : 0 < units) (start : List Disk) {past : List 
     was : t.sent serial ≡ Some q
     was = was_sent w stands serial sent found
 
-    source_is : source ≡ ids sent.from
+    pub source_is : source ≡ ids sent.from
     source_is = (is_of w stands serial sent found).source p read_is.read ∙ ap (λ x. t.ids x sent.from) in_generation
 
     state_is : state_for layer.peers (ids sent.from) number ≡ states.UnderWay closing.kind label.serial
@@ -162,7 +162,7 @@ module _ (units ready : ℕ) (has : 0 < units) (start : List Disk) {past : List 
     pub request_to : receiver_in (t.sent asked_by_it) ≡ Some sent.from
     request_to = ap (λ (x : Terms). receiver_in (x.sent waiting.serial)) (sym (past_terms w stands)) ∙ awaited_to (terms stands.wire.past) u waiting.kind waiting.serial awaited
 
-    under : IsUnderWay layer purpose (ids sent.from) number
+    pub under : IsUnderWay layer purpose (ids sent.from) number
     under =
         subst (λ i. IsUnderWay layer purpose i number) source_is
         (subst (λ n. IsUnderWay layer purpose source n) number_is (under_for layer G.lives purpose source label closing.kind G.mid.known closing.life))

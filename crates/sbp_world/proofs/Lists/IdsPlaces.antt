@@ -10,8 +10,8 @@ use Rattle.sbp_journal.specs.declared.event.Action.TheVariants as actions
 use Rattle.sbp_journal.specs.declared.event.Event.TheVariants as events
 use Rattle.sbp_journal.specs.declared.note.Note.TheVariants as notes
 use Rattle.sbp_world.proofs.Lists.OrbsShort.{event_short, login_small, orb_short}
-use Rattle.sbp_world.proofs.Lists.OwnPlaces.{and_first, own_manages, function_back}
-use Rattle.sbp_world.proofs.Common.{untrue}
+use Rattle.sbp_world.proofs.Lists.OwnPlaces.{own_manages, function_back}
+use Rattle.sbp_world.proofs.Common.{untrue, and_first}
 
 -- ---- as it is read back
 subject_back : (o : ManagementOrb) → o.subject < 2 ^ 16 → (management_orb (management_bytes o)).subject ≡ o.subject

@@ -4,7 +4,7 @@ use Rattle.sbp_world.proofs.Words.Wire.{Stale, Layer, expiring_step, Sent, found
 use Rattle.sbp_world.proofs.Words.Target.{Told, alone, sees, ticks, Purpose, NodeState, TargetScene, desk_at, scene, expired, expired_in, received, with_key, Whole}
 use Rattle.sbp_world.proofs.Words.Initiator.{act_step, InitiatorState, Turn, new_state, expire_step, receive_step, see_step, as_sides}
 use Rattle.sbp_world.proofs.Words.Laws.{action_notes, OrderLaw}
-use Rattle.sbp_world.proofs.Words.World.{marked, whole_of, with_initiators, handed_out, acted, acted_by, keyed, no_unit, weight_in, handed_all, initiator_learns, reset_line, see_line, target_learns, target_sees, target_ticks, tick_line, told_seen, with_seen, at_initiator, delivered_if, expires, first_told, initiator_expires, inject_line, injected, injected_to, is_in_flight, lose_line, lost, may_repeat, refused, target_expired, target_left, timed_out, timeout_line, timeout_of, sent_all, told_all, Scene, WorldState, initiator_at, with_initiator, with_note, with_target, AreRows, machine_at}
+use Rattle.sbp_world.proofs.Words.World.{marked, whole_of, with_initiators, handed_out, acted, acted_by, keyed, no_unit, weight_in, handed_all, initiator_learns, reset_line, see_line, target_learns, target_sees, target_ticks, tick_line, told_seen, with_seen, at_initiator, initiator_expires, inject_line, injected, injected_to, is_in_flight, lose_line, lost, refused, target_left, timed_out, sent_all, told_all, Scene, WorldState, initiator_at, with_initiator, with_note, with_target, AreRows, machine_at}
 use Rattle.sbp_journal.specs.declared.note.Note.TheVariants as notes
 use Rattle.sbp_world.specs.Nodes as nodes
 use Rattle.sbp_world.specs.Packets as packets

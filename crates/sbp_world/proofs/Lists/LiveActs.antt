@@ -1,6 +1,6 @@
 -- What an action of an initiator, and the sight of a generation, make of its session and of its operation under way: an operation begins while none is, and one that
 -- moves the session does so; each other action leaves both. A later generation that is seen leaves none under way and no session in.
-use Rattle.sbp_world.proofs.Words.Std.{◌≡◌, ◌∙◌, refl, sym, ap, ℕ, ◌==◌, Bool, true, false, cond, Option, Some, None, false≢true}
+use Rattle.sbp_world.proofs.Words.Std.{◌≡◌, ◌∙◌, refl, sym, ap, ℕ, ◌==◌, Bool, true, false, cond, Option, Some, None}
 use Rattle.sbp_world.proofs.Words.Wire.{Asked, Layer, seeing_step, Action, Cmd, Operation, OutboxState, empty_outbox}
 use Rattle.sbp_world.proofs.Words.Initiator.{ManagementOrb, PresentList, ListState, drop_lists, high_lists, low_lists, find_in, TicketParts, act_step, append_step, asked_as, asked_for, demand_of, demanded_as, done_step, dummy_for, facts_with, judged_as, link_as, link_step, login_id, low_as, low_step, manage_start, managed_by, orb_by, pinned_for, put_as, put_step, register_start, ring_for, with_running, put_lists, Demand, Purpose, Running, InitiatorState, Turn, moves_session, is_in_held, is_in_live, is_in_out, is_in_stuck, refusal, interrupted, resets_told, see_step, seen_as, is_unwritten, no_marks, session_of, Origin, Seat, from_stuck, goes, pointing, reset, sent, is_stuck_seat, points}
 use Rattle.sbp_world.proofs.Hosts.Acts.{Goes, goes_layer, goes_on}

@@ -3,7 +3,7 @@ use Rattle.sbp_world.proofs.Words.Std.{arith, ◌≡◌, ◌∙◌, refl, sym, a
 use Rattle.sbp_world.proofs.Words.Wire.{PacketFault, Packet, reading, SerialsCount, Access, Moment, asked, said, Sending, Terms, terms, Event, Note, Operation, OpWord}
 use Rattle.sbp_world.proofs.Words.Target.{Status, status_block, number_of, Disk}
 use Rattle.sbp_world.proofs.Words.Initiator.{start_of, Fifo, fifo_at, LoginResponse, login_response, Answer, Done, Expired, NoLabel, Payload, Refused, Running, InitiatorState, place_in, status_in}
-use Rattle.sbp_world.proofs.Words.Laws.{Host, Underway, answered, host_at, known_host, pointer_answered, response_of, stored, present_list, access_at, access_in, answered_at, packet_in, receiver_in, spelled_by, EachMoment}
+use Rattle.sbp_world.proofs.Words.Laws.{Host, Underway, host_at, known_host, pointer_answered, response_of, stored, present_list, access_at, access_in, answered_at, packet_in, receiver_in, spelled_by, EachMoment}
 use Rattle.sbp_world.proofs.Words.World.{Core, Work, work_in, work_of, is_open, HoldsLogin, AreAsked, GoodAt, GrantedAt, IsAnswerTo, IsGot, IsTelling, BasedAt, HasBase, IsTold, outgoing_for}
 use Rattle.bus_memory.specs.declared.window.Window.TheVariants as windows
 use Rattle.sbp_world.proofs.Hosts.Cores.{wire_is}

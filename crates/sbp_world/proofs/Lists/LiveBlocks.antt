@@ -1,6 +1,6 @@
 -- The status block of an operation of the target's management, as it was sent: its payload is what the management had to write, it names the ORB, and its status is
 -- read of it.
-use Rattle.sbp_world.proofs.Words.Std.{arith, ◌≡◌, ◌∙◌, refl, sym, ap, subst, ◌<◌, ◌≤◌, ◌+◌, ◌^◌, ◌==◌, ◌&&◌, ◌||◌, nat_eq, nat_le, ℕ, zero, suc, Bool, true, false, cond, List, [], ◌∷◌, ◌++◌, length, Option, Some, None, Result, Ok, nat_tests}
+use Rattle.sbp_world.proofs.Words.Std.{arith, ◌≡◌, ◌∙◌, refl, sym, ap, subst, ◌<◌, ◌≤◌, ◌^◌, ◌==◌, ◌&&◌, ◌||◌, nat_eq, nat_le, ℕ, zero, suc, Bool, true, false, cond, List, [], ◌∷◌, ◌++◌, length, Option, Some, None, Result, Ok, nat_tests}
 use Rattle.sbp_world.proofs.Words.Wire.{Header, PacketFault, Packet, write_block, reading, SerialsCount, Body, block_read, block_write, quadlet_read, quadlet_write, Access, Moment, asked, said, Sending, terms, largest}
 use Rattle.sbp_world.proofs.Words.Target.{Operation, Status, status_block, number_of, Disk, manager_body}
 use Rattle.sbp_world.proofs.Words.Initiator.{start_of, names_place, Ask, StatusBlock, offset_at, is_among, management_meanings, read_block, status_in}

@@ -1,5 +1,6 @@
 -- What a decision on a management ORB leaves of the live logins of its source: where that had none, it has one at most, and none where the status is not 00;
 -- where each that it had is of the ID that a logout names, it has none; and a function that is about no login leaves them.
+use Rattle.sbp_world.proofs.Common.{all_three}
 use Rattle.sbp_world.proofs.Words.Std.{arith, ◌≡◌, ◌≢◌, ◌∙◌, refl, sym, subst, ℕ, ◌==◌, not, nat_eq, Bool, true, false, cond, List, set, Option, Some, None, Result, Ok, Err, is_none, position, nat_tests, get_or-set_at, get_or-set_other, false≢true}
 use Rattle.sbp_world.proofs.Words.Target.{Entered, Login, LoginRefusal, IsTable, Table, back_step, enter_step, entered, find, id_at, is_held, is_live, is_live_of, is_old, leave_at, leave_step, left_for, place_at, revived, Function, asked_by, back_decided, decide, decide_function, key_at, lacks_key, left_decided, login_decided, unit_exists, with_status, function_of}
 use Rattle.sbp_world.proofs.Words.Initiator.{ManagementOrb}
@@ -13,7 +14,6 @@ use Rattle.mgmt_agent.specs.declared.status.Status.TheVariants as statuses
 use Rattle.sbp_world.specs.Lists.Live.{AreNamed}
 use Rattle.sbp_world.proofs.Lists.LiveTables.{emptied_none, none_login, none_one, other_place, set_one}
 use Rattle.sbp_world.proofs.Sessions.Decisions.{of_id}
-use Rattle.sbp_world.proofs.Hosts.Statuses.Waits.{all_three}
 
 -- a function that makes no login live and ends none
 abbrev pub keeps_logins : Option Function → Bool

@@ -3,9 +3,10 @@
 use Rattle.sbp_world.proofs.Words.Std.{arith, ◌≡◌, ◌∙◌, refl, sym, ap, subst, ℕ, ◌==◌, ◌&&◌, nat_eq, nat_lt, Bool, true, false, cond, List, [], ◌∷◌, ◌++◌, replicate, Option, Some, None, Result, Ok, Err, nat_tests, big_bytes}
 use Rattle.sbp_world.proofs.Words.Wire.{Header, LabelParts, Packet, header_in, lock, lock_response, read_block, read_block_response, read_quadlet, read_quadlet_response, write_block, write_quadlet, write_response, Asked, Stale, Finding, Layer, answering_step, asking_step, expiring_step, judging_step, of_again, of_generation, of_grammar, of_label, of_request, of_response, seeing_step, Judged, buffer_of, Action, Cmd, Operation, OpWord, Side, OutboxState, empty_outbox}
 use Rattle.sbp_world.proofs.Words.Target.{RomFault, SbpUnit, Tree, reading, sbp_unit_of, is_block}
-use Rattle.sbp_world.proofs.Words.Initiator.{read_step, Fifo, management_at, with_quad, OrbFault, StatusBlock, StatusKind, ListState, drop_lists, take_lists, write_lists, PresentList, TicketParts, act_step, append_step, asked_as, asked_for, demand_of, demanded_as, done_step, dummy_for, facts_with, judged_as, link_as, link_step, low_as, low_step, put_as, put_step, ring_for, Demand, Ending, Purpose, Running, InitiatorState, Turn, ask_quad, asked_quad, conflict_for, drop_list_step, drop_where, dropped_as, end_own_for, end_own_step, end_step, ended_for, ended_step, fail_step, fault_number, finish_rom, good_event, good_word, is_address, is_conflict, known_where, managed_step, moved, moves_session, next_quad, quad_got, response_of, state_told, stick_step, told, with_dead, with_rom, with_unit, addressed, block_at, block_by, block_step, called, expire_step, expired_as, fifo_of, got_step, ignored_step, is_foreign, managed_for, present_for, quadlet_at, read_as, receive_step, received, request_step, respond_step, responded_as, serve_step, status_step, taken_as, taken_by, written_as, ends_list, refusal, all_end, resets_told, see_step, seen_as, states_end, counts_for, ending_of, is_orb_of, is_present_orb, last_linked, status_in, Event, bad, conflict, goes, is_stuck_seat}
+use Rattle.sbp_world.proofs.Words.Initiator.{read_step, Fifo, management_at, with_quad, OrbFault, StatusBlock, StatusKind, ListState, drop_lists, take_lists, write_lists, PresentList, TicketParts, act_step, append_step, asked_as, asked_for, demand_of, demanded_as, done_step, dummy_for, facts_with, judged_as, link_as, link_step, low_as, low_step, put_as, put_step, ring_for, Demand, Ending, Purpose, Running, InitiatorState, Turn, ask_quad, asked_quad, conflict_for, drop_list_step, drop_where, dropped_as, end_own_for, end_own_step, end_step, ended_for, ended_step, fail_step, fault_number, finish_rom, good_event, good_word, is_address, is_conflict, known_where, managed_step, moved, moves_session, next_quad, quad_got, response_of, state_told, stick_step, told, with_dead, with_rom, with_unit, addressed, block_at, block_by, block_step, called, expire_step, expired_as, fifo_of, got_step, ignored_step, is_foreign, managed_for, present_for, quadlet_at, read_as, receive_step, received, request_step, respond_step, responded_as, serve_step, status_step, taken_as, taken_by, written_as, ends_list, refusal, all_end, resets_told, see_step, seen_as, states_end, counts_for, ending_of, is_present_orb, last_linked, status_in, Event, bad, conflict, goes, is_stuck_seat}
 use Rattle.sbp_world.proofs.Words.World.{is_open}
 use Rattle.sbp_world.proofs.Hosts.KnowHears.{IfExpires, IfFits}
+use Rattle.sbp_world.proofs.Hosts.PresentOrbs.{present_by, IsPresent}
 use Rattle.initiator_base.specs.declared.fifos.Fifo.TheVariants as fifos
 use Rattle.sbp_initiator.proofs.Histories.Effects.{Fits, IsFor}
 use Rattle.sbp_initiator.proofs.Histories.Purposes.{IfFor}
@@ -231,15 +232,6 @@ pub record IsRefused (s : InitiatorState) (generation : ℕ) (bytes : List ℕ) 
   pub bad : status ≡ 0 → ⊥
   pub logout : running.operation ≡ operations.Logout
   pub number : j ≡ s.number
-
--- the operation that a status block is of
-record IsPresent (orb : ℕ) (operation : Option Running) (running : Running) : Type 0 where
-  is : operation ≡ Some running
-  named : is_orb_of running.managed orb ≡ true
-
-present_by : (orb : ℕ) (operation : Option Running) (running : Running) (b : Bool) → is_present_orb orb operation ≡ b → cond b operation None ≡ Some running → IsPresent orb operation running
-present_by orb operation running true f e = record { is = e; named = ap (λ (o : Option Running). is_present_orb orb o) (sym e) ∙ f }
-present_by orb operation running false f e = absurd (let differ : None ≡ Some running = e in cc)
 
 fits_only : (purpose : Option Purpose) (s : InitiatorState) → (Q : Purpose → Type 0) → IfFor (λ p. Fits p s.operation × Q p) purpose → IfFor (λ p. Fits p s.operation) purpose
 fits_only None s Q f = f

@@ -5,6 +5,7 @@ use Rattle.sbp_world.proofs.Words.Target.{is_block}
 use Rattle.sbp_world.proofs.Words.Initiator.{read_step, Fifo, is_dead_kind, OrbFault, StatusBlock, StatusKind, ListState, take_lists, write_lists, TicketParts, Purpose, Running, InitiatorState, Turn, is_conflict, managed_step, told, with_dead, addressed, block_at, block_by, block_step, called, expire_step, expired_as, fifo_of, got_step, ignored_step, is_foreign, managed_for, present_for, quadlet_at, read_as, receive_step, received, request_step, respond_step, responded_as, serve_step, status_step, taken_as, taken_by, written_as, ending_of, is_orb_of, is_present_orb, status_in}
 use Rattle.sbp_world.proofs.Words.World.{is_open}
 use Rattle.sbp_world.proofs.Hosts.KnowHears.{IfExpires, IfFits}
+use Rattle.sbp_world.proofs.Hosts.PresentOrbs.{present_by}
 use Rattle.initiator_base.specs.declared.fifos.Fifo.TheVariants as fifos
 use Rattle.sbp_initiator.proofs.Histories.Effects.{Fits}
 use Rattle.sbp_initiator.proofs.Histories.Purposes.{IfFor}
@@ -41,15 +42,6 @@ pub record IsUndone (s : InitiatorState) (generation : ℕ) (bytes : List ℕ) (
   pub conflict : is_conflict rcode ≡ true
   pub under_way : s.operation ≡ Some running
   pub own : (running.act == act) ≡ true
-
--- the operation that a status block is of
-record IsPresent (orb : ℕ) (operation : Option Running) (running : Running) : Type 0 where
-  is : operation ≡ Some running
-  named : is_orb_of running.managed orb ≡ true
-
-present_by : (orb : ℕ) (operation : Option Running) (running : Running) (b : Bool) → is_present_orb orb operation ≡ b → cond b operation None ≡ Some running → IsPresent orb operation running
-present_by orb operation running true f e = record { is = e; named = ap (λ (o : Option Running). is_present_orb orb o) (sym e) ∙ f }
-present_by orb operation running false f e = absurd (let differ : None ≡ Some running = e in cc)
 
 -- a transaction that fits an operation
 fits_only : (purpose : Option Purpose) (s : InitiatorState) → (Q : Purpose → Type 0) → IfFor (λ p. Fits p s.operation × Q p) purpose → IfFor (λ p. Fits p s.operation) purpose

@@ -3,7 +3,7 @@ use Rattle.sbp_world.proofs.Words.Std.{arith, ◌≡◌, ◌∙◌, refl, sym, a
 use Rattle.sbp_world.proofs.Words.Wire.{is_reset, Node, Kept, Sent, found_sent, is_flying, deliver_step, Topology, Request, GenerationsState, id_of, topology_at, end_note, judged_note, no_node, no_packet, find, Action, Event, Judged, Note, OutboxState, empty_outbox, Moment}
 use Rattle.sbp_world.proofs.Words.Target.{Disk, Told, scene, expired, received}
 use Rattle.sbp_world.proofs.Words.Initiator.{act_step, InitiatorState, Turn, new_state, expire_step, receive_step, see_step, is_stuck_seat}
-use Rattle.sbp_world.proofs.Words.World.{Arrival, MayAt, MayReceive, MayTell, MayTold, arrived, at_target, delivered, delivered_by, initiator_received, initiators_received, marked, received_by, received_step, target_received, whole_of, with_initiators, handed_out, MayHappen, acted, acted_by, happens, weight_in, reset_line, see_line, told_seen, with_seen, MayIf, at_initiator, delivered_if, expires, first_told, initiator_expires, inject_line, injected, injected_to, is_in_flight, lose_line, lost, may_repeat, refused, target_expired, timed_out, timeout_line, timeout_of, posted, MayNext, delivered_at, delivered_next, lowest, Scene, WorldState, begun, initiator_at, with_initiator, with_note, with_target, without_notes, IsLine, Stands}
+use Rattle.sbp_world.proofs.Words.World.{Arrival, MayAt, MayReceive, MayTell, MayTold, arrived, at_target, delivered, delivered_by, initiator_received, initiators_received, marked, received_by, received_step, target_received, whole_of, with_initiators, handed_out, MayHappen, acted, acted_by, happens, weight_in, reset_line, see_line, told_seen, with_seen, MayIf, at_initiator, delivered_if, expires, initiator_expires, inject_line, injected, injected_to, is_in_flight, lose_line, lost, may_repeat, refused, target_expired, timed_out, timeout_line, timeout_of, posted, MayNext, delivered_at, delivered_next, lowest, Scene, WorldState, begun, initiator_at, with_initiator, with_note, with_target, without_notes, IsLine, Stands}
 use Rattle.std.proofs.lemmas.List.{length-set}
 use Rattle.sbp_journal.specs.declared.event.Event.TheVariants as events
 use Rattle.sbp_journal.specs.declared.note.Note.TheVariants as notes
@@ -16,13 +16,14 @@ use Rattle.sbp_world.proofs.Wire.Nodes.{handed_alike, marked_alike}
 use Rattle.sbp_world.proofs.Agents.Management.Holding.{Holding}
 use Rattle.sbp_world.proofs.Hosts.ActLeft.{act_left}
 use Rattle.sbp_world.proofs.Hosts.Hands.{target_tells}
+use Rattle.sbp_world.proofs.Hosts.Knows.{seen_flag}
 use Rattle.sbp_world.proofs.Hosts.Layered.{AreTame, expire_left, receive_left}
 use Rattle.sbp_world.proofs.Hosts.PointSees.{see_left}
 use Rattle.sbp_world.proofs.Sessions.Turns.{next, not_later, other_same, own_latest}
 use Rattle.sbp_world.proofs.Lists.LiveActs.{see_new, see_old}
 use Rattle.sbp_world.proofs.Lists.LiveStandings.{stand_of}
 use Rattle.sbp_world.proofs.Lists.LiveTold.{AwayFrom, HeardFirst, IsAway, IsOwnPacket, TellsAway, first_heard, handed_told, hands_heard, hands_told, judged_away, judged_first, none_told, one_told, posted_told}
-use Rattle.sbp_world.proofs.Lists.LiveTurns.{TargetCall, TurnOf, Turned, acts, by_own, by_sight, delivers, flag_is, hears, key_turn, lapse_turn, lapses, own_turn, quiet_turn, rests, sight_turn, target_turn, tick_turn}
+use Rattle.sbp_world.proofs.Lists.LiveTurns.{TargetCall, TurnOf, Turned, acts, by_own, by_sight, delivers, hears, key_turn, lapse_turn, lapses, own_turn, quiet_turn, rests, sight_turn, target_turn, tick_turn}
 use Rattle.sbp_world.proofs.Lists.Turned.{IsOne}
 
 -- ---- an initiator acts
@@ -146,7 +147,7 @@ module _ (units ready : ℕ) (has : 0 < units) (start : List Disk) {past : List 
 
     by_flag : (b : Bool) → nat_lt (initiator_at w j).layer.generation w.generations.latest.generation ≡ b → TurnOf j w w.fresh now
     by_flag true e =
-        let flag = flag_is (initiator_at w j).layer w.generations.latest.generation (id_of w.generations.latest (suc j)) ∙ e in
+        let flag = seen_flag (initiator_at w j).layer w.generations.latest.generation (id_of w.generations.latest (suc j)) ∙ e in
         let z = ap (λ (t : Topology). t.generation) latest_at in
         let layer = layer_is in
         let less : (initiator_at w j).layer.generation < w.generations.latest.generation = grind (arith, nat_tests) in
@@ -166,7 +167,7 @@ module _ (units ready : ℕ) (has : 0 < units) (start : List Disk) {past : List 
         (see_left w.generations.latest.generation (id_of w.generations.latest (suc j)) (id_of w.generations.latest 0) (initiator_at base j)).told
         (one_told j w.generations.latest.generation w.store.kept w.fresh (notes.Seen (suc j) w.generations.latest.generation) w ((λ x. absurd (omega (arith, x))), (λ x. refl)) (none_told j w.generations.latest.generation w.store.kept w.fresh))))
     by_flag false e =
-        let flag = flag_is (initiator_at w j).layer w.generations.latest.generation (id_of w.generations.latest (suc j)) ∙ e in
+        let flag = seen_flag (initiator_at w j).layer w.generations.latest.generation (id_of w.generations.latest (suc j)) ∙ e in
         let z = ap (λ (t : Topology). t.generation) latest_at in
         let layer = layer_is in
         let more : w.generations.latest.generation ≤ (initiator_at w j).layer.generation = grind (arith, nat_tests) in

@@ -12,7 +12,6 @@ use Rattle.sbp_world.proofs.Lists.LiveActs.{Acted, IsReset, Sends, begins, comes
 use Rattle.sbp_world.proofs.Lists.LiveMoves.{IsLike, Moved, answers, ends, gives_up, rests, undoes}
 use Rattle.sbp_world.proofs.Lists.LiveOwn.{Came, Fit, GaveUp, Undid, came, enters_moves, granted_back, granted_in, in_again, in_hand, is_entry, is_exit, moves_managed, not_up, out_again, quits_moves, refused_in, still_stuck, stuck_still, two_ways, undid, up_like, went_out}
 use Rattle.sbp_world.proofs.Lists.LiveStandings.{Claims, Stand, apart, apart_comes, apart_leaves, claims_apart, claims_comes, claims_inside, claims_kept, claims_leaves, claims_quiet, comes, good_block, inside, inside_comes, inside_leaves, leaves, leaves_comes, comes_leaves, stand_of}
-use Rattle.sbp_world.proofs.Common.{untrue}
 
 -- an operation that moves the session is management, and in hand
 moving_hand : {A : Type 0} (operation : Option Running) (seat : Seat) (running : Running) → operation ≡ Some running → moves_session running.operation ≡ true → GaveUp operation seat → A

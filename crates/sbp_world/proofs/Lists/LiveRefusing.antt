@@ -1,6 +1,6 @@
 -- No response of conflict_error ends the operation of an initiator whose write started an operation of the target: such a response answers that write, and was given to it.
 use Rattle.sbp_world.proofs.Words.Std.{arith, ◌≡◌, ◌∙◌, refl, sym, ap, subst, ℕ, suc, ◌<◌, Bool, true, false, cond, List, ◌∷◌, ◌++◌, map, length, Option, Some, None, Result, Ok, Err, nat_tests}
-use Rattle.sbp_world.proofs.Words.Wire.{PacketFault, rcode_of, LabelParts, Packet, header_in, reading, AreJudged, is_awaited, is_response, may_get, waits_for, as_sending, transaction, LabelState, ReplyKind, Facts, Row, by_again, by_generation, by_grammar, by_label, by_request, by_response, row_of, Finding, Layer, closed_at, closed_by, closing_in, closing_step, layer_facts, judged_by, judging_step, of_response, peer_at, peer_place, responded, PeerPlace, close_place, closed_for, reply_kind, Table, close_in, close_step, handle, place_at, Sent, found_sent, judged_note, empty_outbox, Moment, asked, said, Kind, Sending, Transaction, between, is_same_kind, part_of, response, Terms, arrives, closes, closes_if, free, gets, gets_as, is_news, is_served, opened, terms, waits, Event, Note}
+use Rattle.sbp_world.proofs.Words.Wire.{PacketFault, rcode_of, LabelParts, Packet, header_in, reading, AreJudged, is_awaited, is_response, may_get, waits_for, as_sending, transaction, LabelState, ReplyKind, Facts, Row, by_again, by_generation, by_grammar, by_label, by_request, by_response, row_of, Finding, Layer, closed_at, closed_by, closing_in, closing_step, layer_facts, judged_by, judging_step, of_response, peer_at, peer_place, responded, PeerPlace, close_place, closed_for, reply_kind, Table, close_in, close_step, handle, place_at, Sent, found_sent, judged_note, empty_outbox, Moment, said, Kind, Sending, Transaction, between, is_same_kind, part_of, response, Terms, arrives, closes, closes_if, free, gets, gets_as, is_news, is_served, opened, terms, waits, Event, Note}
 use Rattle.sbp_world.proofs.Words.Target.{Disk}
 use Rattle.sbp_world.proofs.Words.Initiator.{Purpose, Running, InitiatorState, receive_step}
 use Rattle.sbp_world.proofs.Words.Laws.{Underway, host_at, is_management}
@@ -29,7 +29,7 @@ use Rattle.sbp_world.proofs.Lists.LiveHears.{IsUndone}
 use Rattle.sbp_world.proofs.Lists.LiveRuns.{base_of}
 use Rattle.sbp_world.proofs.Lists.LiveTogether.{turn_begins}
 use Rattle.sbp_world.proofs.Lists.LiveTold.{HeardFirst}
-use Rattle.sbp_world.proofs.Lists.ManageFinds.{closes_at, refused_rcode}
+use Rattle.sbp_world.proofs.Lists.ManageFinds.{refused_rcode}
 use Rattle.sbp_world.proofs.Lists.ManageHand.{InHand, Own}
 use Rattle.sbp_world.proofs.Lists.ManageLabels.{AskedFor}
 use Rattle.sbp_world.proofs.Lists.ManageMoments.{Hands, IsAnswer, MayHand, TakeFacts}
@@ -41,6 +41,7 @@ use Rattle.sbp_world.proofs.Lists.ManageTerms.{same_some}
 use Rattle.sbp_world.proofs.Lists.StatusKnown.{each_from}
 use Rattle.sbp_world.proofs.Lists.BufferGets.{judged_from}
 use Rattle.sbp_world.proofs.Pointers.Ending.{read_in}
+use Rattle.sbp_world.proofs.Pointers.Finds.{closes_at}
 use Rattle.sbp_world.proofs.Pointers.Guarded.{receive_got as response_got}
 use Rattle.sbp_world.proofs.Common.{untrue, said_split as split}
 
@@ -195,7 +196,7 @@ module _ (ready : Bool) (start : List Disk) (serial generation : ℕ) (bytes : L
   answer =
       let b = (h.busy at_it.u at_it.is (ap is_management at_it.same ∙ manages)).own in
       f.answers to_is from_is n asked_for.kind asked_for.serial b.packet b.label (ap (terms past).sent (sym first_is) ∙ b.sent) b.part held over
-      (ap rcode_of bytes_are ∙ (refused_rcode bytes undone.rcode p spelled undone.refused ∙ conflict_is undone.rcode undone.conflict))
+      4 (ap rcode_of bytes_are ∙ (refused_rcode bytes undone.rcode p spelled undone.refused ∙ conflict_is undone.rcode undone.conflict))
 
   pub not_refused : ⊥
   not_refused =

@@ -26,7 +26,6 @@ use Rattle.sbp_world.proofs.Lists.LiveTold.{none_told}
 use Rattle.sbp_world.proofs.Lists.LiveTurns.{OwnCall, TargetCall, TurnOf, Turned, acts, by_clearing, by_own, by_sight, by_target, delivers, hears, lapses, quiet_turn, rests, still}
 use Rattle.sbp_world.proofs.Lists.Runs.{hist_more}
 use Rattle.sbp_world.proofs.Lists.OpenedBeside.{next_extends}
-use Rattle.sbp_world.proofs.Common.{said_split}
 
 -- ---- what is known at each place of every run
 pub record IsCored (past : List Moment) (i : ℕ) (s : InitiatorState) : Type 0 where

@@ -1,16 +1,17 @@
 -- What a turn of a world is for an initiator: one of the target, in the same generation or by the sight of a later one; or one that leaves the target, in which the
 -- initiator may be called, or sees a later generation.
 use Rattle.sbp_world.proofs.Words.Std.{arith, ◌≡◌, ◌∙◌, refl, sym, ap, subst, ℕ, suc, ◌<◌, ◌≤◌, nat_eq, nat_lt, Bool, true, false, cond, List, [], ◌∷◌, length, Option, Some, None, Result, Ok, Err, slice_index_or, nat_tests, get_or-set_other, get_or-set_at, false≢true}
-use Rattle.sbp_world.proofs.Words.Wire.{LabelParts, Node, Stale, Layer, seeing_step, Sent, found_sent, Topology, Request, GenerationsState, id_of, topology_at, judged_note, no_packet, Action, Note, empty_outbox, Moment}
+use Rattle.sbp_world.proofs.Words.Wire.{LabelParts, Node, Stale, Sent, found_sent, Topology, Request, GenerationsState, id_of, topology_at, judged_note, no_packet, Action, Note, empty_outbox, Moment}
 use Rattle.sbp_world.proofs.Words.Target.{Login, is_live, Operation, Disk, Told, after, alone, sees, sets_key, ticks, NodeState, TargetScene, login_at, scene, expired, received, whole}
 use Rattle.sbp_world.proofs.Words.Initiator.{Nothing, act_step, InitiatorState, new_state, expire_step, receive_step}
-use Rattle.sbp_world.proofs.Words.World.{handed_out, keyed, no_unit, reset_line, see_line, target_sees, target_ticks, tick_line, told_seen, with_seen, at_initiator, delivered_if, expires, first_told, initiator_expires, inject_line, injected, injected_to, is_in_flight, lose_line, lost, may_repeat, refused, target_expired, target_left, timed_out, timeout_line, timeout_of, WorldState, initiator_at, with_initiator, with_note, with_target, Stands, AreOthers, CallsKeep}
+use Rattle.sbp_world.proofs.Words.World.{handed_out, keyed, no_unit, see_line, target_sees, target_ticks, tick_line, told_seen, with_seen, refused, target_left, timed_out, WorldState, initiator_at, with_initiator, with_note, with_target, Stands, AreOthers, CallsKeep}
 use Rattle.sbp_journal.specs.declared.note.Note.TheVariants as notes
 use Rattle.sbp_world.specs.Nodes as nodes
 use Rattle.sbp_world.specs.Packets as packets
 use Rattle.sbp_world.proofs.Wire.Alike.{IsAlike}
 use Rattle.sbp_world.proofs.Wire.Nodes.{handed_alike}
 use Rattle.sbp_world.proofs.Hosts.Hands.{second_tells, sight_tells}
+use Rattle.sbp_world.proofs.Hosts.Knows.{seen_flag}
 use Rattle.sbp_world.proofs.Hosts.TargetTells as target_tell
 use Rattle.sbp_target.proofs.Histories.Calling.{Good}
 use Rattle.sbp_world.proofs.Agents.Management.Calls.{management_law}
@@ -106,14 +107,6 @@ own_turn w base v j state a c away i l = by_own (alike_bus i w (with_initiator j
         let was : initiator_at v i ≡ initiator_at w i = now_is ∙ get_or-set_other w.initiators j i state (new_state 0 false) (λ x. let y : nat_eq i j ≡ true = grind (arith, nat_tests) in false≢true (sym e ∙ y)) in
         rests (ap (λ (x : InitiatorState). x.operation) was) (ap (λ (x : InitiatorState). x.seat) was)
 
-pub flag_is : {A : Type 0} (layer : Layer A) (generation id : ℕ) → (seeing_step layer generation id).0 ≡ nat_lt layer.generation generation
-unfolding seeing_step
-flag_is layer generation id = by (nat_lt layer.generation generation) refl
-  where
-    by : (b : Bool) → nat_lt layer.generation generation ≡ b → (seeing_step layer generation id).0 ≡ b
-    by true e = rw e refl
-    by false e = rw e refl
-
 module _ (units ready : ℕ) (has : 0 < units) (start : List Disk) {past : List Moment} {lines : ℕ} (w : WorldState) (h : Holding units ready start past lines w) where
   abbrev stands : Stands past w
   stands = h.sound.stands
@@ -197,7 +190,7 @@ module _ (units ready : ℕ) (has : 0 < units) (start : List Disk) {past : List 
     sighted : (b : Bool) → nat_lt w.target.layer.generation G.latest.generation ≡ b → TurnOf i w w.fresh seen_world
     unfolding target_sees
     sighted true e =
-        let flag = flag_is w.target.layer G.latest.generation own_id ∙ e in
+        let flag = seen_flag w.target.layer G.latest.generation own_id ∙ e in
         let z = ap (λ (t : Topology). t.generation) (at_now 0 ∙ zero_latest) in
         let layer = target_layer in
         let less : w.target.layer.generation < G.latest.generation = grind (arith, nat_tests) in
@@ -211,7 +204,7 @@ module _ (units ready : ℕ) (has : 0 < units) (start : List Disk) {past : List 
         }) initiator_same
         (handed_told (notes.Seen 0 G.latest.generation ∷ []) w.fresh 0 sight.outbox (with_target sight.node (with_seen 0 (told_seen 0 w))) (sight_tells G.latest.generation own_id w.target) refl refl)
     sighted false e =
-        let flag = flag_is w.target.layer G.latest.generation own_id ∙ e in
+        let flag = seen_flag w.target.layer G.latest.generation own_id ∙ e in
         let z = ap (λ (t : Topology). t.generation) (at_now 0 ∙ zero_latest) in
         let layer = target_layer in
         let more : G.latest.generation ≤ w.target.layer.generation = grind (arith, nat_tests) in

@@ -3,7 +3,7 @@ use Rattle.sbp_world.proofs.Words.Std.{arith, ◌≡◌, ◌∙◌, refl, sym, a
 use Rattle.sbp_world.proofs.Words.Wire.{Sent, found_sent, is_flying, Request, end_note, judged_note, no_packet, find, Event, OutboxState, empty_outbox, Moment, asked, Stale, Layer, expiring_step, judging_step, deliver_step, id_of, Action, LabelParts, Packet, header_in, of_response}
 use Rattle.sbp_world.proofs.Words.Target.{Told, with_key, expired, expired_in, received, alone, sees, ticks, Purpose, TargetScene, scene, NodeState, desk_at, Held, Machine, Login, served_login, plain_in, Which, which_in, reply_step, answer_in}
 use Rattle.sbp_world.proofs.Words.Initiator.{new_state, receive_step, OwnTurn, act_step}
-use Rattle.sbp_world.proofs.Words.World.{Arrival, MayAt, MayReceive, MayTold, arrived, at_target, delivered, delivered_by, initiator_received, initiators_received, marked, received_by, received_step, target_received, with_initiators, whole_of, MayTell, handed_out, MayHappen, acted, happens, keyed, no_unit, acted_by, weight_in, reset_line, see_line, target_sees, target_ticks, tick_line, told_seen, with_seen, MayIf, delivered_if, expires, initiator_expires, inject_line, is_in_flight, lose_line, may_repeat, refused, target_expired, timed_out, timeout_line, timeout_of, target_left, MayNext, delivered_at, delivered_next, lowest, after_all, IsLine, Scene, WorldState, begun, initiator_at, with_note, with_target, without_notes, with_initiator, machine_at}
+use Rattle.sbp_world.proofs.Words.World.{Arrival, MayAt, MayReceive, MayTold, arrived, at_target, delivered, delivered_by, initiator_received, initiators_received, marked, received_by, received_step, target_received, with_initiators, whole_of, MayTell, handed_out, MayHappen, acted, happens, keyed, no_unit, acted_by, weight_in, reset_line, see_line, target_sees, target_ticks, tick_line, told_seen, with_seen, MayIf, delivered_if, expires, initiator_expires, inject_line, is_in_flight, lose_line, may_repeat, refused, target_expired, timed_out, timeout_line, timeout_of, target_left, MayNext, delivered_at, delivered_next, lowest, IsLine, Scene, WorldState, begun, initiator_at, with_note, with_target, without_notes, with_initiator, machine_at}
 use Rattle.sbp_journal.specs.declared.event.Event.TheVariants as events
 use Rattle.sbp_journal.specs.declared.note.Note.TheVariants as notes
 use Rattle.sbp_world.specs.Packets as packets

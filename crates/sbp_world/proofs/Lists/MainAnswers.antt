@@ -1,4 +1,5 @@
 -- The reply that waits for an agent to be taken on is to the request that is its main transaction: its answer was got, or it timed out.
+use Rattle.sbp_world.proofs.Common.{serial_is}
 use Rattle.sbp_world.proofs.Words.Std.{arith, ◌≡◌, ◌∙◌, refl, sym, ap, subst, inl, inr, ◌⊎◌, ◌==◌, not, ℕ, zero, suc, ◌+◌, Bool, true, false, cond, List, [], ◌∷◌, Option, Some, None, is_none, position, slice_set, unwrap_or}
 use Rattle.sbp_world.proofs.Words.Wire.{Moment, asked, said, Part, part_of, request, response, Terms, Event, Note}
 use Rattle.sbp_world.proofs.Words.Target.{Ahead, Main, Table, Effect, ManagerStep, Disk}
@@ -16,7 +17,6 @@ use Rattle.sbp_laws.proofs.Going.{going_rests, run_rests}
 use Rattle.sbp_world.specs.Lists.LetsGo.{IsAnswered, WasClosed}
 use Rattle.sbp_world.proofs.Lists.PointersGot.{requests_got}
 use Rattle.sbp_world.proofs.Agents.Asides.{over_none}
-use Rattle.sbp_world.proofs.Agents.Handed.{is_its_serial as serial_there}
 
 -- ---- what is for an agent's main transaction is that
 record IsMainAt (from place serial : ℕ) (agents : List Agent) : Type 0 where
@@ -29,7 +29,7 @@ main_among from [] place serial e = absurd (let f : for_nobody ≡ for_agent pla
 main_among from (a ∷ agents) place serial e = by (λ h. main_among (from + 1) agents place serial h) (is_serial a.main serial) refl (is_serial a.ahead serial) e
   where
     by : (purpose_among (from + 1) agents serial ≡ for_agent place Main → IsMainAt (from + 1) place serial agents) → (x : Bool) → is_serial a.main serial ≡ x → (y : Bool) → cond x (for_agent from Main) (cond y (for_agent from Ahead) (purpose_among (from + 1) agents serial)) ≡ for_agent place Main → IsMainAt from place serial (a ∷ agents)
-    by more true g y h = record { k = 0; place_is = let f : from ≡ place = cc in omega arith; waits = serial_there a.main serial g }
+    by more true g y h = record { k = 0; place_is = let f : from ≡ place = cc in omega arith; waits = serial_is a.main serial g }
     by more false g true h = absurd (let f : for_agent from Ahead ≡ for_agent place Main = h in cc)
     by more false g false h = let x = more h in let p = x.place_is in record { k = suc x.k; place_is = omega arith; waits = x.waits }
 

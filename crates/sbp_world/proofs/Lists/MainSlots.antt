@@ -1,5 +1,6 @@
 -- At a place of a run, where lists are open as they should be: the main transaction of an agent that goes into the page table or the buffer of a slot of an initiator that injected no packets is for
 -- the first ORB of its list that has not ended. The agent reads the page table of this ORB or its data, or it writes its answer; and the ORB has the slot, or its initiator is ahead of the target.
+use Rattle.sbp_world.proofs.Common.{same_node}
 use Rattle.sbp_world.proofs.Words.Std.{arith, ◌≡◌, ◌∙◌, refl, sym, ap, subst, ◌<◌, ◌≤◌, ◌+◌, ◌-◌, ℕ, suc, nat_lt, Bool, true, false, List, length, Some, nat_tests, pow_pos}
 use Rattle.sbp_world.proofs.Words.Wire.{or_nobody, Access, Cmd, Moment, Terms, terms}
 use Rattle.sbp_world.proofs.Words.Target.{Knows, Progress, main_ask, Phase, Main, Machine, chunk_of, limit_of, Disk}
@@ -81,9 +82,6 @@ pub record Kit (start : List Disk) (past : List Moment) (w : WorldState) : Type 
   pub here : IsTameOrFew past → AllHere past w
   pub untaken : IsTameOrFew past → AreUntaken past w
 
-pub same_initiator : (a b : ℕ) → Some (suc a) ≡ Some (suc b) → a ≡ b
-same_initiator a b e = cc
-
 module _ (units ready : ℕ) (has : 0 < units) (start : List Disk) {past : List Moment} {lines : ℕ} (w : WorldState) (h : Holding units ready start past lines w) (kit : Kit start (hist past w) w) (beside : IsTameOrFew (hist past w)) where
   abbrev ms : List Moment
   ms = hist past w
@@ -112,7 +110,7 @@ module _ (units ready : ℕ) (has : 0 < units) (start : List Disk) {past : List 
 
     -- it is of the initiator that has the place
     here : j ≡ i
-    here = same_initiator j i (sym wait.to ∙ x.to)
+    here = same_node j i (sym wait.to ∙ x.to)
 
     quiet : IsCalm ms j
     quiet = subst (IsCalm ms) (sym here) calm

@@ -73,7 +73,7 @@ module _ (short : ShortLaw) (lists : OpenListsLaw) where
   untaken : Under (WhereTameOrFew AreUntaken)
   untaken = places.untaken_law opened_known.laws.pointers opened_known.laws.begun (here_beside short) (placed_beside short)
 
-  kit_everywhere : EveryPlace Kit
+  pub kit_everywhere : EveryPlace Kit
   kit_everywhere =
       let grounds = ground_everywhere lists in
       let knows = known in

@@ -1,7 +1,7 @@
 -- What is in hand of an initiator's management as it does an action: that which begins an operation of management finds nothing in hand.
 use Rattle.sbp_world.proofs.Words.Std.{◌≡◌, ◌∙◌, refl, sym, ap, subst, ℕ, ◌+◌, ◌<◌, Bool, true, false, cond, List, Option, Some, None}
 use Rattle.sbp_world.proofs.Words.Wire.{Asked, ReplyKind, Life, under_way, Layer, empty_outbox, Moment, Action, Operation}
-use Rattle.sbp_world.proofs.Words.Initiator.{after_by, begun_as, is_managed, Demand, Purpose, Running, InitiatorState, act_step, asked_as, asked_for, demand_of, demanded_as, done_step, facts_with, judged_as, ring_demand, SessionState, fits_session, refusal, is_unwritten, session_of, is_stuck_seat, Seat}
+use Rattle.sbp_world.proofs.Words.Initiator.{after_by, begun_as, is_managed, Demand, Purpose, Running, InitiatorState, act_step, asked_as, asked_for, demand_of, demanded_as, done_step, facts_with, judged_as, ring_demand, fits_session, refusal, is_unwritten, session_of, is_stuck_seat, Seat}
 use Rattle.sbp_world.proofs.Words.Laws.{operation_of}
 use Rattle.sbp_initiator.proofs.Histories.Actions.{Allowed, done_does}
 use Rattle.sbp_initiator.proofs.Histories.Effects.{HasMarks}

@@ -1,100 +1,14 @@
--- What a response that an initiator hears spells, which transaction it closes, and that a status block of its management is got.
-use Rattle.sbp_world.proofs.Words.Std.{arith, ◌≡◌, refl, sym, ◌∙◌, ap, subst, ℕ, ◌==◌, ◌&&◌, not, is_some, Bool, true, false, cond, List, ◌∷◌, Option, Some, None, Result, Ok, Err, nat_tests}
-use Rattle.sbp_world.proofs.Words.Wire.{PacketFault, fault_of, rcode_of, tcode_of, value_of, LabelParts, Packet, header_in, write_block, packet_in, reading, unless_fault, ReplyKind, Finding, Layer, facts_of, judged_by, judging_step, of_request, of_response, responded, Row, by_again, by_generation, by_grammar, by_label, by_request, by_response, row_of, Life, Told, and_before, ended, life, told_by_finding, told_closed, under_way, state_for, reply_kind, OutboxState, empty_outbox, Judged}
+-- What a response that an initiator hears spells, and that a status block of its management is got.
+use Rattle.sbp_world.proofs.Words.Std.{arith, ◌≡◌, refl, sym, ◌∙◌, ap, subst, ℕ, ◌==◌, ◌&&◌, not, Bool, true, false, cond, List, Option, Some, None, Result, Ok, Err, nat_tests}
+use Rattle.sbp_world.proofs.Words.Wire.{PacketFault, fault_of, rcode_of, tcode_of, value_of, LabelParts, Packet, write_block, packet_in, reading, unless_fault, Layer, facts_of, judged_by, judging_step, of_request, responded, Row, by_again, by_generation, by_grammar, by_label, by_request, by_response, row_of, OutboxState, empty_outbox, Judged}
 use Rattle.sbp_world.proofs.Words.Target.{is_block}
 use Rattle.sbp_world.proofs.Words.Initiator.{Fifo, Purpose, Running, InitiatorState, addressed, block_at, block_by, block_step, fifo_of, is_foreign, managed_for, present_for, receive_step, received, request_step, status_step, ending_by, ending_of, status_in}
 use Rattle.sbp_world.proofs.Words.World.{is_open}
 use Rattle.initiator_base.specs.declared.fifos.Fifo.TheVariants as fifos
-use Rattle.label_table.specs.History.{is_same, judges}
-use Rattle.label_table.specs.History as wire
-use Rattle.label_table.proofs.Calls.{after_kept, told_law}
 use Rattle.sbp_initiator.specs.declared.purpose.Ending.TheVariants as endings
 use Rattle.sbp_journal.specs.declared.cause.Judged.TheVariants as judgements
-use Rattle.sbp_initiator.proofs.Histories.Lives.{of_same}
-use Rattle.sbp_initiator.proofs.Histories.Purposes.{kind_in}
-use Rattle.sbp_world.proofs.Hosts.Lives.{At, Called, at_life}
 use Rattle.sbp_world.proofs.Lists.ManageHears.{IsStatusFor}
-use Rattle.sbp_world.proofs.Pointers.Finds.{same_serial, none_ended}
-use Rattle.sbp_world.proofs.Pointers.Guarded.{receive_got}
 use Rattle.sbp_world.proofs.Common.{untrue}
-
--- ---- it was under way
-
-abbrev Notes : Type 0
-Notes = List (Told Purpose)
-
--- a transaction under way, by what was told
-record RunsFor (x : Life Purpose) (purpose : Option Purpose) : Type 0 where
-  kind : ReplyKind
-  is : x ≡ under_way kind purpose
-
-at_layer : (node : ℕ) (calls : List (wire.Call Purpose)) (peer : ℕ) (label : LabelParts) (purpose : Option Purpose) → RunsFor (life peer label (wire.history node calls)) purpose → At (wire.after node calls) peer label.number purpose
-at_layer node calls peer label purpose r =
-    let k = after_kept node calls in
-    record { kind = r.kind; serial = label.serial; state = k.agree.stands peer label r.kind purpose r.is; is_for = k.agree.is_for peer label r.kind purpose r.is }
-
-told_kind : (kind : Option ReplyKind) (p : Packet) (label : LabelParts) (purpose : Option Purpose) (notes : Notes) → is_some kind ≡ true → wire.AreTold (and_before (told_closed p label purpose kind) notes) → RunsFor (life (header_in p).source label notes) purpose
-told_kind None p label purpose notes e a = untrue e
-told_kind (Some kind) p label purpose notes e a = record { kind = kind; is = a.0 }
-
-pub closes_at : (layer : Layer Purpose) (generation : ℕ) (bytes : List ℕ) (p : Packet) (label : LabelParts) (purpose : Option Purpose) → Called layer → (judging_step layer generation bytes).0 ≡ of_response p label purpose → At layer (header_in p).source label.number purpose
-closes_at layer generation bytes p label purpose c f =
-    let old = wire.after c.node c.calls in
-    let g : (judging_step old generation bytes).0 ≡ of_response p label purpose = ap (λ (l : Layer Purpose). (judging_step l generation bytes).0) c.is ∙ f in
-    let t = told_law Purpose c.node (judges generation bytes ∷ c.calls) in
-    let u : wire.AreTold (and_before (told_closed p label purpose (reply_kind p)) (wire.history c.node c.calls)) = subst (λ (x : Finding Purpose). wire.AreTold (and_before (told_by_finding x bytes) (wire.history c.node c.calls))) g t in
-    subst (λ (l : Layer Purpose). At l (header_in p).source label.number purpose) c.is
-    (at_layer c.node c.calls (header_in p).source label purpose (told_kind (reply_kind p) p label purpose (wire.history c.node c.calls) (kind_in old generation bytes p label purpose g) u))
-
--- and is over then
-module _ (layer : Layer Purpose) (generation : ℕ) (bytes : List ℕ) (p : Packet) (label : LabelParts) (purpose : Option Purpose) (c : Called layer) (f : (judging_step layer generation bytes).0 ≡ of_response p label purpose) where
-  abbrev old : Layer Purpose
-  old = wire.after c.node c.calls
-
-  abbrev notes : Notes
-  notes = wire.history c.node c.calls
-
-  abbrev source : ℕ
-  source = (header_in p).source
-
-  g : (judging_step old generation bytes).0 ≡ of_response p label purpose
-  g = ap (λ (l : Layer Purpose). (judging_step l generation bytes).0) c.is ∙ f
-
-  was : RunsFor (life source label notes) purpose
-  was =
-      let t = told_law Purpose c.node (judges generation bytes ∷ c.calls) in
-      told_kind (reply_kind p) p label purpose notes (kind_in old generation bytes p label purpose g)
-      (subst (λ (x : Finding Purpose). wire.AreTold (and_before (told_by_finding x bytes) notes)) g t)
-
-  -- one transaction has a label
-  same_name : (name : LabelParts) (kind : ReplyKind) (q : Option Purpose) → name.number ≡ label.number → life source name notes ≡ under_way kind q → is_same source label source name ≡ true
-  same_name name kind q n w =
-      let agree = (after_kept c.node c.calls).agree in
-      let a = agree.stands source label was.kind purpose was.is in
-      let b = agree.stands source name kind q w in
-      of_same source label source name (record {
-        peer = refl;
-        number = sym n;
-        generation = agree.now source label was.kind purpose was.is ∙ sym (agree.now source name kind q w);
-        serial = same_serial was.kind kind label.serial name.serial (sym a ∙ ap (state_for old.peers source) (sym n) ∙ b);
-      })
-
-  over_by : (b : Bool) (name : LabelParts) (kind : ReplyKind) (q : Option Purpose) → is_same source label source name ≡ b → name.number ≡ label.number → cond b (ended (life source name notes)) (life source name notes) ≡ under_way kind q → ⊥
-  over_by true name kind q e n w = none_ended (life source name notes) kind q w
-  over_by false name kind q e n w = untrue (sym e ∙ same_name name kind q n w)
-
-  over_kind : (reply : Option ReplyKind) → is_some reply ≡ true → (name : LabelParts) (kind : ReplyKind) (q : Option Purpose) → name.number ≡ label.number → life source name (and_before (told_closed p label purpose reply) notes) ≡ under_way kind q → ⊥
-  over_kind None e name kind q n w = untrue e
-  over_kind (Some reply) e name kind q n w = over_by (is_same source label source name) name kind q refl n w
-
-  pub closed_over : (q : Option Purpose) → At (judging_step layer generation bytes).1 source label.number q → ⊥
-  closed_over q a =
-      let call = judges generation bytes in
-      let now = wire.after c.node (call ∷ c.calls) in
-      let b : At now source label.number q = subst (λ (l : Layer Purpose). At (judging_step l generation bytes).1 source label.number q) (sym c.is) a in
-      let name : LabelParts = record { number = label.number; generation = now.generation; serial = b.serial } in
-      over_kind (reply_kind p) (kind_in old generation bytes p label purpose g) name b.kind q refl
-      (subst (λ (x : Finding Purpose). life source name (and_before (told_by_finding x bytes) notes) ≡ under_way b.kind q) g (at_life c.node (call ∷ c.calls) source label.number q b))
 
 -- ---- what it spells
 

@@ -15,8 +15,8 @@ use Rattle.sbp_initiator.specs.declared.purpose.Purpose.TheVariants as purposes
 use Rattle.sbp_journal.specs.declared.cause.Cause.TheVariants as ignored
 use Rattle.sbp_journal.specs.declared.note.Note.TheVariants as notes
 use Rattle.sbp_world.proofs.Lists.ManageLeaves.{Left, ends_left, left_self, managed, responds, serves, still, takes}
-use Rattle.sbp_world.proofs.Lists.ManageTerms.{none_is}
 use Rattle.sbp_world.proofs.Hosts.KnowActs.{not_not}
+use Rattle.sbp_world.proofs.Hosts.PresentOrbs.{present_by}
 
 -- a block that is delivered of the target, at an open FIFO, is the status block of a management ORB of the operation
 pub record IsStatusFor (s : InitiatorState) (generation : ℕ) (bytes : List ℕ) (running : Running) : Type 0 where
@@ -35,15 +35,6 @@ pub record IsStatusFor (s : InitiatorState) (generation : ℕ) (bytes : List ℕ
 pub data IsEndedBy (s : InitiatorState) (generation : ℕ) (bytes : List ℕ) (running : Running) : Type 0 where
   by_conflict : (p : Packet) (label : LabelParts) (act rcode : ℕ) → (judging_step s.layer generation bytes).0 ≡ of_response p label (Some (purposes.Management act)) → running.act ≡ act → ending_of p ≡ endings.Refused rcode → is_conflict rcode ≡ true → IsEndedBy s generation bytes running
   by_status : IsStatusFor s generation bytes running → IsEndedBy s generation bytes running
-
--- the operation that a status block is of
-record IsPresent (orb : ℕ) (operation : Option Running) (running : Running) : Type 0 where
-  is : operation ≡ Some running
-  named : is_orb_of running.managed orb ≡ true
-
-present_by : (orb : ℕ) (operation : Option Running) (running : Running) (b : Bool) → is_present_orb orb operation ≡ b → cond b operation None ≡ Some running → IsPresent orb operation running
-present_by orb operation running true f e = record { is = e; named = ap (λ (o : Option Running). is_present_orb orb o) (sym e) ∙ f }
-present_by orb operation running false f e = none_is running e
 
 module _ (s : InitiatorState) (generation : ℕ) (bytes : List ℕ) where
   abbrev Why : Running → Type 0

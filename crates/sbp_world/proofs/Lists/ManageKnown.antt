@@ -44,6 +44,19 @@ RestAt start i moment past = Unit {0}
 pub write_of : (bytes : List ℕ) (l : ℕ) → part_of bytes ≡ request l writing → is_write bytes ≡ true
 write_of bytes l e = let r = request_read bytes l writing e in (asking_read bytes r.packet l writing r.read r.is).writes
 
+-- a write that is got was not judged before
+module _ (serial : ℕ) (earlier : List Moment) (p : Sending) (later : Facts (terms (said (notes.Got serial) ∷ earlier))) (sent : (terms earlier).sent serial ≡ Some p) (honest : p.injected ≡ false) (calm : (terms (said (notes.Got serial) ∷ earlier)).injects p.from ≡ false) (label : ℕ) (part : part_of p.bytes ≡ request label writing) where
+  sent_later : (terms (said (notes.Got serial) ∷ earlier)).sent serial ≡ Some p
+  sent_later = ap (λ (f : ℕ → Option Sending). f serial) (got_rests serial earlier).sent ∙ sent
+
+  pub not_judged : (terms earlier).news serial ≡ 0
+  not_judged =
+      let v = between p p.from p.to label in
+      let b = asked_begun p v honest (request_asked p label writing part) in
+      let most = (later.counts serial p sent_later).most v b (write_of p.bytes label part) (ap not calm) in
+      let more = got_more serial earlier p sent in
+      omega (arith, most, more)
+
 -- what is got is of its receiver's generation
 generation_not : (b : Bool) (x : Row) → may_get (cond (not b) by_generation x) ≡ true → b ≡ true
 generation_not true x e = refl
@@ -158,20 +171,12 @@ module _ (start : List Disk) (past : List Moment) (i : ℕ) (calm : IsCalm past 
     honest : (n : ℕ) → p.from ≡ n → (terms past).injects n ≡ false → p.injected ≡ false
     honest n f x = honest_by p.injected refl n f x
 
-    sent_now : (terms (said (notes.Got serial) ∷ past)).sent serial ≡ Some p
-    sent_now = ap (λ (f : ℕ → Option Sending). f serial) (got_rests serial past).sent ∙ g.sent
-
     fresh : (n : ℕ) → p.from ≡ n → (terms past).injects n ≡ false → (terms (said (notes.Got serial) ∷ past)).injects n ≡ false → (label : ℕ) → part_of p.bytes ≡ request label writing → (terms past).news serial ≡ 0
     fresh n e before later label part =
-        let h = honest n e before in
-        let v = between p p.from p.to label in
-        let b = asked_begun p v h (request_asked p label writing part) in
-        let most = (g.later.counts serial p sent_now).most v b (write_of p.bytes label part) (ap (λ m. not ((terms (said (notes.Got serial) ∷ past)).injects m)) e ∙ ap not later) in
-        let m = got_more serial past p g.sent in
-        omega (arith, most, m)
+        not_judged serial past p g.later g.sent (honest n e before) (ap (terms (said (notes.Got serial) ∷ past)).injects e ∙ later) label part
 
-    answers : p.to ≡ suc i → p.from ≡ 0 → (label : ℕ) (kind : Kind) (own : ℕ) (asking : Sending) (l : ℕ) → (terms past).sent own ≡ Some asking → part_of asking.bytes ≡ request l writing → (let v = transaction ((terms past).generation (suc i)) (suc i) 0 label in (terms past).held v ≡ waits kind own → ((terms (said (notes.Got serial) ∷ past)).held v ≡ waits kind own → ⊥) → rcode_of p.bytes ≡ 4 → IsAnswer past i label own 4)
-    answers to from label kind own asking l there part held over code =
+    answers : p.to ≡ suc i → p.from ≡ 0 → (label : ℕ) (kind : Kind) (own : ℕ) (asking : Sending) (l : ℕ) → (terms past).sent own ≡ Some asking → part_of asking.bytes ≡ request l writing → (let v = transaction ((terms past).generation (suc i)) (suc i) 0 label in (terms past).held v ≡ waits kind own → ((terms (said (notes.Got serial) ∷ past)).held v ≡ waits kind own → ⊥) → (rcode : ℕ) → rcode_of p.bytes ≡ rcode → IsAnswer past i label own rcode)
+    answers to from label kind own asking l there part held over rcode code =
         let v = transaction ((terms past).generation (suc i)) (suc i) 0 label in
         let c = it_closes serial past p g.sent v kind own held over in
         let tie = g.facts.tie v in

@@ -67,6 +67,14 @@ pub record Left (s : InitiatorState) (Why : Running → Type 0) (u : InitiatorSt
 pub left_self : (s : InitiatorState) (Why : Running → Type 0) → Left s Why s
 left_self s Why = record { operation = inl refl; unstuck = λ e. e }
 
+-- the operation is as before, or over
+pub was_by : (s u : InitiatorState) (Why : Running → Type 0) → Left s Why u → (r : Running) → u.operation ≡ Some r → s.operation ≡ Some r
+was_by s u Why left r e = by left.operation
+  where
+    by : (u.operation ≡ s.operation) ⊎ IsEnded s Why u → s.operation ≡ Some r
+    by (inl f) = sym f ∙ e
+    by (inr f) = none_is r (sym f.none ∙ e)
+
 module _ (s : InitiatorState) (Why : Running → Type 0) where
   abbrev L : InitiatorState → Type 0
   L u = Left s Why u

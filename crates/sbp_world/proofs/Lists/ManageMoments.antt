@@ -48,7 +48,7 @@ pub record IsAnswer (past : List Moment) (i label own rcode : ℕ) : Type 0 wher
 pub record TakeFacts (start : List Disk) (past : List Moment) (i serial : ℕ) : Type 0 where
   pub packet : Sending
   pub facts : GotFacts past i serial packet
-  pub answers : packet.to ≡ suc i → packet.from ≡ 0 → (label : ℕ) (kind : Kind) (own : ℕ) (asking : Sending) (l : ℕ) → (terms past).sent own ≡ Some asking → part_of asking.bytes ≡ request l writing → (let v = transaction ((terms past).generation (suc i)) (suc i) 0 label in (terms past).held v ≡ waits kind own → ((terms (said (notes.Got serial) ∷ past)).held v ≡ waits kind own → ⊥) → rcode_of packet.bytes ≡ 4 → IsAnswer past i label own 4)
+  pub answers : packet.to ≡ suc i → packet.from ≡ 0 → (label : ℕ) (kind : Kind) (own : ℕ) (asking : Sending) (l : ℕ) → (terms past).sent own ≡ Some asking → part_of asking.bytes ≡ request l writing → (let v = transaction ((terms past).generation (suc i)) (suc i) 0 label in (terms past).held v ≡ waits kind own → ((terms (said (notes.Got serial) ∷ past)).held v ≡ waits kind own → ⊥) → (rcode : ℕ) → rcode_of packet.bytes ≡ rcode → IsAnswer past i label own rcode)
   -- an answer to a write of the target: the initiator took that as new
   pub replied : packet.to ≡ 0 → (own : ℕ) → answered_at (terms past) serial ≡ Some own → (asking : Sending) → (terms past).sent own ≡ Some asking → asking.to ≡ suc i → (l : ℕ) → part_of asking.bytes ≡ request l writing → 0 < (terms past).news own
   pub tells : packet.to ≡ suc i → packet.from ≡ 0 → (header : Header) (offset : ℕ) (payload : List ℕ) → reading packet.bytes ≡ Ok (write_block header offset payload) → (logins : ℕ) (is_out : Bool) → is_open (fifo_at logins is_out offset) ≡ true → (block : StatusBlock) → status_in payload ≡ Ok block → (status : ℕ) → block.kind ≡ kinds.Management status → (place : ℕ) → place < 2 → block.orb ≡ start_of (windows.Management place) → IsTelling start past i serial place

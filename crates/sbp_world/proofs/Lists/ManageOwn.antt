@@ -20,7 +20,7 @@ use Rattle.sbp_world.proofs.Hosts.Lives.{At, judge_at}
 use Rattle.sbp_world.proofs.Hosts.Pointed.{judged_called}
 use Rattle.sbp_world.proofs.Hosts.Pointing.{called_of, under_way_now}
 use Rattle.sbp_world.proofs.Hosts.Shown.{IsHeard, IsShown}
-use Rattle.sbp_world.proofs.Lists.ManageFinds.{block_is_got, closed_over, closes_at, read_request, refused_rcode}
+use Rattle.sbp_world.proofs.Lists.ManageFinds.{block_is_got, read_request, refused_rcode}
 use Rattle.sbp_world.proofs.Lists.ManageFirsts.{Goes, goes_then, note_first, told_first}
 use Rattle.sbp_world.proofs.Lists.ManageGot.{gets_other, got_busy, got_free}
 use Rattle.sbp_world.proofs.Lists.ManageHand.{InHand, Own, busy_on}
@@ -33,6 +33,7 @@ use Rattle.sbp_world.proofs.Lists.ManageSights.{told_busy, told_free, told_hands
 use Rattle.sbp_world.proofs.Lists.ManageStays.{Calms, calm_busy, calm_free, zero_or}
 use Rattle.sbp_world.proofs.Lists.ManageTerms.{got_more, none_is, same_some}
 use Rattle.sbp_world.proofs.Pointers.Ending.{read_in}
+use Rattle.sbp_world.proofs.Pointers.Finds.{closed_over, closes_at}
 use Rattle.sbp_world.proofs.Pointers.Guarded.{receive_got as response_got}
 use Rattle.sbp_world.proofs.Common.{untrue}
 
@@ -65,7 +66,7 @@ module _ (start : List Disk) (serial : ℕ) (past : List Moment) (i : ℕ) where
   judged_busy judgements.Got f place write k = got_busy start past i serial f.packet f.facts place write k
   judged_busy (judgements.Ignored cause) f place write k = calm_busy (quiet_calm start i (notes.Ignored serial cause) past refl f) place write k
 
-  judged_first : (j : Judged) → Goes (host_at past i) (host_at (said (judged_note serial j) ∷ past) i)
+  pub judged_first : (j : Judged) → Goes (host_at past i) (host_at (said (judged_note serial j) ∷ past) i)
   judged_first judgements.Got = note_first (notes.Got serial) past i refl
   judged_first (judgements.Ignored cause) = note_first (notes.Ignored serial cause) past i refl
 
@@ -116,17 +117,17 @@ module _ (ready : Bool) (start : List Disk) (serial generation : ℕ) (bytes : L
   -- ---- what a packet that was got is
 
   module _ (f : TakeFacts start past i serial) where
-    packet_is : f.packet ≡ heard.packet
+    pub packet_is : f.packet ≡ heard.packet
     packet_is = same_some f.packet heard.packet (sym f.facts.sent ∙ heard.sent)
 
-    to_it : f.packet.to ≡ suc i
+    pub to_it : f.packet.to ≡ suc i
     to_it = ap (λ (q : Sending). q.to) packet_is ∙ heard.to_is
 
-    bytes_are : f.packet.bytes ≡ bytes
+    pub bytes_are : f.packet.bytes ≡ bytes
     bytes_are = ap (λ (q : Sending). q.bytes) packet_is ∙ heard.bytes_are
 
     -- of the target, where it names it
-    of_target : (p : Packet) → reading bytes ≡ Ok p → (header_in p).source ≡ s.target → f.packet.from ≡ 0
+    pub of_target : (p : Packet) → reading bytes ≡ Ok p → (header_in p).source ≡ s.target → f.packet.from ≡ 0
     of_target p r e =
         let g : f.packet.generation ≡ s.layer.generation = f.facts.current ∙ ap (terms past).generation to_it ∙ sym shown.generation in
         let source = heard.source p (ap reading heard.bytes_are ∙ r) in
@@ -177,7 +178,7 @@ module _ (ready : Bool) (start : List Disk) (serial generation : ℕ) (bytes : L
           f.answers (to_it f) (of_target f p spelled peer) label.number w.kind w.serial b.packet b.label (ap (terms past).sent (sym first_is) ∙ b.sent) b.part
           (ap (λ n. (terms past).held (transaction n (suc i) 0 label.number)) (sym g) ∙ w.held)
           (λ e. over (ap (λ j. (terms (said (judged_note serial j) ∷ past)).held v) now_got ∙ ap (λ n. (terms got_now).held (transaction n (suc i) 0 label.number)) g ∙ e))
-          code
+          4 code
 
       -- it is that of the operation, whose write is over so
       free_before : IsFree start past i

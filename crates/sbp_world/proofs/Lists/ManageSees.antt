@@ -1,8 +1,8 @@
 -- What is in hand of an initiator's management stays as it sees a generation.
 use Rattle.sbp_world.proofs.Words.Std.{arith, ◌≡◌, ◌∙◌, refl, sym, ap, subst, ℕ, suc, ◌≤◌, ◌==◌, nat_eq, nat_lt, not, Bool, true, false, cond, List, ◌∷◌, None, nat_tests}
-use Rattle.sbp_world.proofs.Words.Wire.{Layer, seen_in_generation, seeing_step, empty_outbox, Moment, said, Terms, terms}
+use Rattle.sbp_world.proofs.Words.Wire.{seen_in_generation, seeing_step, empty_outbox, Moment, said, Terms, terms}
 use Rattle.sbp_world.proofs.Words.Target.{Disk}
-use Rattle.sbp_world.proofs.Words.Initiator.{Purpose, InitiatorState, Turn, interrupted, resets_told, see_step, seen_as}
+use Rattle.sbp_world.proofs.Words.Initiator.{InitiatorState, Turn, interrupted, resets_told, see_step, seen_as}
 use Rattle.sbp_world.proofs.Words.Laws.{Host, host_at, known_host}
 use Rattle.sbp_world.proofs.Words.World.{behind}
 use Rattle.sbp_initiator.proofs.Histories.Effects.{list_drops}
@@ -10,6 +10,7 @@ use Rattle.sbp_journal.specs.declared.note.Note.TheVariants as notes
 use Rattle.sbp_laws.specs.Hosts.{reset_seen}
 use Rattle.sbp_world.proofs.Hosts.Aimed.{IsAimed}
 use Rattle.sbp_world.proofs.Hosts.Cores.{wire_is}
+use Rattle.sbp_world.proofs.Hosts.Knows.{seen_flag}
 use Rattle.sbp_world.proofs.Hosts.Layered.{AreTame}
 use Rattle.sbp_world.proofs.Lists.ManageFirsts.{note_first, told_first}
 use Rattle.sbp_world.proofs.Lists.ManageHand.{InHand, Own, keeps}
@@ -31,14 +32,6 @@ seen_none false generation id target s e = untrue e
 pub none_later : (generation id target : ℕ) (s : InitiatorState) → nat_lt s.layer.generation generation ≡ true → (see_step generation id target empty_outbox s).1.operation ≡ None
 unfolding see_step seeing_step
 none_later generation id target s e = seen_none (nat_lt s.layer.generation generation) generation id target s e
-
-flag_by : (b : Bool) (new old : Layer Purpose) → (let x : Bool × Layer Purpose = cond b (true, new) (false, old) in x.0 ≡ b)
-flag_by true new old = refl
-flag_by false new old = refl
-
-flag_is : (generation id : ℕ) (layer : Layer Purpose) → (seeing_step layer generation id).0 ≡ nat_lt layer.generation generation
-unfolding seeing_step
-flag_is generation id layer = flag_by (nat_lt layer.generation generation) (seen_in_generation layer generation id) layer
 
 host_none : (b c : Bool) (host : Host) → b ≡ true → c ≡ true → (cond b (reset_seen c host) host).operation ≡ None
 host_none true true host e f = refl
@@ -66,7 +59,7 @@ module _ (ready : Bool) (start : List Disk) (generation id target : ℕ) (past :
     anew : nat_eq generation ((terms past).generation (suc i)) ≡ false → InHand start later i t.1
     anew e =
         let f : SightFacts start past i (suc i) generation = known.0 in
-        let lt : nat_lt s.layer.generation generation ≡ true = sym (flag_is generation id s.layer) ∙ flag ∙ ap not e in
+        let lt : nat_lt s.layer.generation generation ≡ true = sym (seen_flag s.layer generation id) ∙ flag ∙ ap not e in
         let none = none_later generation id target s lt in
         record {
           free = λ x n. told_free start i t.0.sides seen_now tame hands (f.new refl e);
@@ -83,7 +76,7 @@ module _ (ready : Bool) (start : List Disk) (generation id target : ℕ) (past :
     again : nat_eq generation ((terms past).generation (suc i)) ≡ true → InHand start later i t.1
     again e =
         let f : SightFacts start past i (suc i) generation = known.0 in
-        let lt : nat_lt s.layer.generation generation ≡ false = sym (flag_is generation id s.layer) ∙ flag ∙ ap not e in
+        let lt : nat_lt s.layer.generation generation ≡ false = sym (seen_flag s.layer generation id) ∙ flag ∙ ap not e in
         let c = again_calm start generation past i e f.none in
         subst (λ (x : Turn). InHand start (behind x.0.sides seen_now) i x.1) (sym (see_old generation id target s lt))
         (keeps start past seen_now i s (calm_free c) (calm_busy c) (note_first (notes.Seen (suc i) generation) past i refl)

@@ -2,13 +2,13 @@
 -- second passes.
 use Rattle.sbp_world.proofs.Words.Std.{arith, ◌≡◌, refl, sym, subst, ℕ, suc, ◌+◌, ◌-◌, ◌==◌, nat_lt, Bool, true, false, cond, List, [], ◌∷◌, length, Option, Some, None, Result, Ok, Err, if◌then◌else◌, AllByRecursion, nat_tests}
 use Rattle.sbp_world.proofs.Words.Wire.{LabelParts, Stale, Request, id_of, node_of, judged_note, no_packet, find, OutboxState, empty_outbox, Moment, said, terms, Judged, Action, Note, Outgoing, Side}
-use Rattle.sbp_world.proofs.Words.Target.{Disk, NodeState, scene, expired}
+use Rattle.sbp_world.proofs.Words.Target.{Disk, scene, expired}
 use Rattle.sbp_world.proofs.Words.Initiator.{act_step, Turn, expire_step, see_step}
 use Rattle.sbp_world.proofs.Words.Laws.{EachMoment}
-use Rattle.sbp_world.proofs.Words.World.{AreOthers, history, handed_out, acted, acted_by, weight_in, handed_all, initiator_learns, see_line, sees, target_learns, target_ticks, tick_line, told_seen, with_seen, at_initiator, expires, initiator_expires, refused, target_expired, target_left, timed_out, timeout_line, timeout_of, asked_for, posted, sent, sent_all, sent_to, told, told_all, WorldState, initiator_at, with_initiator, with_note, with_target}
+use Rattle.sbp_world.proofs.Words.World.{AreOthers, history, handed_out, acted, acted_by, weight_in, handed_all, initiator_learns, see_line, sees, target_learns, target_ticks, tick_line, told_seen, with_seen, at_initiator, expires, initiator_expires, target_expired, target_left, timed_out, timeout_line, timeout_of, asked_for, posted, sent, sent_all, sent_to, told, told_all, WorldState, initiator_at, with_initiator, with_note, with_target}
 use Rattle.sbp_world.proofs.Hosts.ActLeft.{act_left}
 use Rattle.sbp_world.proofs.Hosts.Hands.{second_tells, sight_tells}
-use Rattle.sbp_world.proofs.Hosts.Layered.{AreTame, expire_left, is_tame}
+use Rattle.sbp_world.proofs.Hosts.Layered.{AreTame, expire_left, is_tame, IsFine, others_fine, tame_fine}
 use Rattle.sbp_world.proofs.Hosts.PointSees.{see_left}
 use Rattle.sbp_world.proofs.Hosts.TargetTells as target_tell
 use Rattle.sbp_journal.specs.declared.cause.Judged.TheVariants as judgements
@@ -51,25 +51,11 @@ judged_on start serial (judgements.Ignored cause) past h = (tt, h)
 
 -- ---- what a node tells
 
-abbrev IsFine : Side → Type 0
-IsFine (sides.Own note) = is_plain note ≡ true
-IsFine _ = Unit {0}
-
-others_fine : (told : List Side) → AreOthers told → AllByRecursion IsFine told
-others_fine [] h = tt
-others_fine (sides.Own note ∷ later) h = absurd h.0
-others_fine (_ ∷ later) h = (tt, others_fine later h.1)
-
-tame_fine : (told : List Side) → AreTame told → AllByRecursion IsFine told
-tame_fine [] h = tt
-tame_fine (sides.Own note ∷ later) h = (tame_plain note h.0, tame_fine later h.1)
-tame_fine (_ ∷ later) h = absurd h.0
-
 module _ (start : List Disk) (past : List Moment) where
   abbrev pub B : WorldState → Type 0
   B w = AreFound start (history w past)
 
-  one_side : (weight : ℕ) (side : Side) (w : WorldState) → IsFine side → B w → B (told weight side w)
+  one_side : (weight : ℕ) (side : Side) (w : WorldState) → IsFine is_plain side → B w → B (told weight side w)
   unfolding told
   one_side weight (sides.Own note) w f h = plain_on start note (history w past) f h
   one_side weight (sides.Opened place orb) w f h = h
@@ -87,7 +73,7 @@ module _ (start : List Disk) (past : List Moment) where
   one_side weight (sides.Unsolicited place) w f h = (tt, h)
   one_side weight (sides.Unsent place) w f h = (tt, h)
 
-  all_sides : (weight : ℕ) (told : List Side) (w : WorldState) → AllByRecursion IsFine told → B w → B (told_all weight told w)
+  all_sides : (weight : ℕ) (told : List Side) (w : WorldState) → AllByRecursion (IsFine is_plain) told → B w → B (told_all weight told w)
   unfolding told_all
   all_sides weight [] w f h = h
   all_sides weight (side ∷ later) w f h = all_sides weight later (told weight side w) f.1 (one_side weight side w f.0 h)
@@ -112,14 +98,14 @@ module _ (start : List Disk) (past : List Moment) where
   all_leave from (packet ∷ later) w f h =
       all_leave from later (sent from packet w) (λ e. (f e).1) (leaves_to (node_of w.generations from packet.to) from packet w (λ e. free_found start (history w past) packet.bytes (f e).0) h)
 
-  hands : (from weight : ℕ) (outbox : OutboxState) (w : WorldState) → AllByRecursion IsFine outbox.sides → (from ≡ 0 → NoConflicts outbox.packets) → B w → B (handed_out from weight outbox w)
+  hands : (from weight : ℕ) (outbox : OutboxState) (w : WorldState) → AllByRecursion (IsFine is_plain) outbox.sides → (from ≡ 0 → NoConflicts outbox.packets) → B w → B (handed_out from weight outbox w)
   hands from weight outbox w f g h = all_leave from outbox.packets (told_all weight outbox.sides w) g (all_sides weight outbox.sides w f h)
 
   pub target_hands : (weight : ℕ) (outbox : OutboxState) (w : WorldState) → AreOthers outbox.sides → NoConflicts outbox.packets → B w → B (handed_out 0 weight outbox w)
-  target_hands weight outbox w f g h = hands 0 weight outbox w (others_fine outbox.sides f) (λ e. g) h
+  target_hands weight outbox w f g h = hands 0 weight outbox w (others_fine is_plain outbox.sides f) (λ e. g) h
 
   pub own_hands : (i weight : ℕ) (outbox : OutboxState) (w : WorldState) → AreTame outbox.sides → B w → B (handed_out (suc i) weight outbox w)
-  own_hands i weight outbox w f h = hands (suc i) weight outbox w (tame_fine outbox.sides f) (λ e. absurd (omega (arith, e))) h
+  own_hands i weight outbox w f h = hands (suc i) weight outbox w (tame_fine is_plain tame_plain outbox.sides f) (λ e. absurd (omega (arith, e))) h
 
   -- the first packet is as it is found behind what is told
   first_leaves : (first : Outgoing) (more : List Outgoing) (w : WorldState) → IsFound start (history w past) first.bytes → NoConflicts more → B w → B (sent_all 0 (first ∷ more) w)
@@ -129,7 +115,7 @@ module _ (start : List Disk) (past : List Moment) where
   pub first_hands : (outbox : OutboxState) (w : WorldState) → AreOthers outbox.sides → (x : First outbox.packets) → IsFound start (history (told_all 0 outbox.sides w) past) x.first.bytes → B w → B (handed_out 0 0 outbox w)
   first_hands outbox w f x g h =
       let u = told_all 0 outbox.sides w in
-      subst (λ ps. B (sent_all 0 ps u)) (sym x.packets_are) (first_leaves x.first x.more u g x.others (all_sides 0 outbox.sides w (others_fine outbox.sides f) h))
+      subst (λ ps. B (sent_all 0 ps u)) (sym x.packets_are) (first_leaves x.first x.more u g x.others (all_sides 0 outbox.sides w (others_fine is_plain outbox.sides f) h))
 
   pub notes_on : (note : Note) (w : WorldState) → is_plain note ≡ true → B w → B (with_note note w)
   notes_on note w e h = plain_on start note (history w past) e h

@@ -1,4 +1,5 @@
 -- As each packet is got in a run in which no initiator injected packets, or few logins were given, of each initiator that injected none, what answers the management operation begins elsewhere than in a slot.
+use Rattle.sbp_world.proofs.Common.{serial_is}
 use Rattle.sbp_world.proofs.Words.Std.{arith, ◌≡◌, ◌∙◌, refl, sym, ap, subst, ◌<◌, ◌+◌, ◌&&◌, ℕ, suc, Bool, true, false, cond, List, [], ◌∷◌, length, Option, Some, None}
 use Rattle.sbp_world.proofs.Words.Wire.{Access, Moment, asked, said, Terms, terms, Event, Note}
 use Rattle.sbp_world.proofs.Words.Target.{Ahead, Main, Operation, high_eui_at, low_eui_at, source_in, Disk}
@@ -10,7 +11,6 @@ use Rattle.bus_memory.proofs.Found.{window_here}
 use Rattle.mgmt_agent.specs.declared.operation.Phase.{Phase}
 use Rattle.mgmt_agent.specs.declared.operation.Phase.TheVariants as phases
 use Rattle.mgmt_agent.specs.Machine.{Machine}
-use Rattle.sbp_world.proofs.Agents.Handed.{is_its_serial}
 use Rattle.sbp_world.proofs.Agents.Management.Offices.{over_keeps}
 use Rattle.sbp_world.proofs.Agents.Management.Still.{hist}
 use Rattle.sbp_world.specs.Agents.Holders.{IsOf}
@@ -55,7 +55,7 @@ pub manages_it : (start : List Disk) (past : List Moment) (own : ℕ) → purpos
 manages_it start past own e =
     let T = over (target_at start past) in
     let b = of_manager (is_serial T.manages own) (purpose_among 0 T.agents own) e (among_not 0 T.agents own) in
-    sym (ap (λ (o : Office). o.manages) (over_keeps (target_at start past))) ∙ is_its_serial T.manages own b
+    sym (ap (λ (o : Office). o.manages) (over_keeps (target_at start past))) ∙ serial_is T.manages own b
 
 -- ---- where it begins
 abbrev pub NoData : ℕ → Type 0
@@ -161,7 +161,7 @@ module _ (units ready : ℕ) (has : 0 < units) (start : List Disk) {past : List 
         let was : WasAsked start ms own op = g.known.are.each own op (((bound start ms g.known.counts).own own manages).0 ∙ e) in
         let is = access_there start ms g.known.counts own op was in
         read_at (is_serial (sender_in (t.sent serial)) (suc i)) (is_serial (receiver_in (t.sent serial)) 0) was.access is
-        (λ f. let from = is_its_serial (sender_in (t.sent serial)) (suc i) f in by_access op e from was.access is (aims_by op.phase op was.access was.content (placed op e from)))
+        (λ f. let from = serial_is (sender_in (t.sent serial)) (suc i) f in by_access op e from was.access is (aims_by op.phase op was.access was.content (placed op e from)))
 
     managed_elsewhere : Elsewhere
     managed_elsewhere = by_operation (target_at start ms).manager.operation refl

@@ -1,4 +1,5 @@
 -- At a place of a run the agent of the target has the ORB that was prepared last in its slot, of an initiator that injected no packets; and so has it what a packet brings to it that it gets.
+use Rattle.sbp_world.proofs.Common.{same_node}
 use Rattle.sbp_world.proofs.Words.Std.{◌≡◌, ◌∙◌, refl, sym, ap, subst, ◌<◌, ◌++◌, ℕ, suc, Bool, true, List, [], ◌∷◌, length, Some}
 use Rattle.sbp_world.proofs.Words.Wire.{LabelParts, Packet, header_in, judging_step, of_response, Sent, found_sent, Moment, asked, said, Terms, opened, terms, Event}
 use Rattle.sbp_world.proofs.Words.Target.{Which, Disk, which_in, desk_at, answer_in}
@@ -37,9 +38,6 @@ module _ (units ready : ℕ) (has : 0 < units) (start : List Disk) {past : List 
 
   abbrev R : ℕ → ℕ → ℕ → CommandOrb → Type 0
   R serial p address orb = IsHad start (said (notes.Got serial) ∷ ms) ms w p address orb
-
-  same_node : (i j : ℕ) → Some (suc i) ≡ Some (suc j) → i ≡ j
-  same_node i j e = cc
 
   just_had : (serial p : ℕ) → p < 8 → IsCalm ms (initiator_in w p) → (address : ℕ) (orb : CommandOrb) → IsJustBrought start ms serial p address orb → IsHad start (said (notes.Got serial) ∷ ms) ms w p address orb
   just_had serial p b calm address orb x =

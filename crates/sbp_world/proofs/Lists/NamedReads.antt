@@ -42,7 +42,7 @@ module _ (start : List Disk) (past : List Moment) (place i n k : ℕ) (orb : Com
   latest =
       let e = subst (λ j. suc x.led.n ≡ lists b.earlier j) name.initiator x.led.latest in
       let f = name.list in
-      let law_then : OrderLaw wild (said (notes.Got b.response) ∷ b.earlier) = order_from wild i n b.later (said (notes.Got b.response) ∷ b.earlier) (subst (OrderLaw wild) (sym b.is) law) in
+      let law_then : OrderLaw wild (said (notes.Got b.response) ∷ b.earlier) = order_from wild b.later (said (notes.Got b.response) ∷ b.earlier) (subst (OrderLaw wild) (sym b.is) law) in
       latest_then wild i n b.earlier b.request k law_then.1 (omega (arith, e, f)) appended
 
   -- the list was open then, and it is this one

@@ -1,6 +1,6 @@
 -- A write of ORB_POINTER that the target got is one that its initiator named for a list, whose first ORB its slot held as the write was got: as no ORB of the list had
 -- ended then, and no status of it was taken.
-use Rattle.sbp_world.proofs.Words.Std.{arith, ◌≡◌, ◌∙◌, refl, sym, ap, subst, ℕ, ◌<◌, ◌≤◌, ◌+◌, Bool, false, List, [], ◌∷◌, ◌++◌, length, Option, Some, None}
+use Rattle.sbp_world.proofs.Words.Std.{arith, ◌≡◌, ◌∙◌, refl, sym, ap, subst, ℕ, ◌<◌, ◌≤◌, Bool, false, List, [], ◌∷◌, ◌++◌, length, Option, Some, None}
 use Rattle.sbp_world.proofs.Words.Wire.{AreJudged, SerialsCount, Moment, asked, said, Sending, terms, Event}
 use Rattle.sbp_world.proofs.Words.Target.{Disk}
 use Rattle.sbp_world.proofs.Words.Initiator.{slot_of, start}
@@ -19,9 +19,7 @@ use Rattle.sbp_world.proofs.Lists.OpenNews.{got_more}
 use Rattle.sbp_world.proofs.Lists.Passing.{PassLaw}
 use Rattle.sbp_world.proofs.Lists.Walks.{Turn, Walks}
 use Rattle.sbp_world.proofs.Lists.BufferGets.{judged_from}
-use Rattle.sbp_world.proofs.Common.{cond_off}
 use Rattle.sbp_world.proofs.Lists.OpenedMoments.{pointed_remains}
-use Rattle.sbp_world.proofs.Hosts.PointerNotes.{older}
 use Rattle.sbp_world.proofs.Lists.StatusKnown.{got_by}
 
 -- ---- a line that begins changes nothing of it

@@ -1,4 +1,5 @@
 -- What the target gets in answer to a request of nobody begins elsewhere than in the slot of an ORB of an open list: a request that goes there is under way, and is the main transaction of an agent, or an ORB had the slot whose list was cut.
+use Rattle.sbp_world.proofs.Common.{serial_is}
 use Rattle.sbp_world.proofs.Words.Std.{arith, ◌≡◌, ◌∙◌, refl, sym, ap, inl, inr, ◌⊎◌, ◌<◌, ◌≤◌, ◌==◌, ◌&&◌, ℕ, suc, Bool, true, false, cond, List, [], Option, Some, None, nat_tests}
 use Rattle.sbp_world.proofs.Words.Wire.{SerialsCount, Access, Moment, Sending, Transaction, between, Held, Terms, terms}
 use Rattle.sbp_world.proofs.Words.Target.{Disk}
@@ -6,7 +7,6 @@ use Rattle.sbp_world.proofs.Words.Initiator.{window_at}
 use Rattle.sbp_world.proofs.Words.Laws.{moved_by, payload_at, read_by, orb, prepared_in, taken_at, IsOpen, access_at, answered_at, begun_in, is_under_way, is_waiting_for, receiver_in, sender_in, waits_for, for_nobody, is_serial, over, purpose_of, target_at, ends}
 use Rattle.sbp_world.proofs.Words.World.{IsInSlot, IsMainAt, WasCutOff, AllElsewhere, data_slot}
 use Rattle.bus_memory.specs.declared.window.Window.TheVariants as windows
-use Rattle.sbp_world.proofs.Agents.Handed.{is_its_serial}
 use Rattle.sbp_world.proofs.Lists.BegunBy.{IsBegun, IsHeld, IsTransactionOf, begun_of, held_by, transaction_of}
 use Rattle.sbp_world.proofs.Lists.CutOffs.{off_apart}
 use Rattle.sbp_world.proofs.Lists.FedOnce.{IsReply, reply_by}
@@ -78,7 +78,7 @@ module _ (past : List Moment) (c : SerialsCount past) (serial own : ℕ) (closed
       read_at true true f g (Some access) e = (record { table = table; buffer = λ w. by w access.is_write refl }, tt)
         where
           not_there : data_slot (window_at access.offset) ≡ Some slot → (window_at access.offset ≡ Some (windows.Buffer slot) → access.is_write ≡ false) → ⊥
-          not_there = none (is_its_serial (sender_in (t.sent serial)) (suc i) f) (is_its_serial (receiver_in (t.sent serial)) 0 g) access e
+          not_there = none (serial_is (sender_in (t.sent serial)) (suc i) f) (serial_is (receiver_in (t.sent serial)) 0 g) access e
 
           table : window_at access.offset ≡ Some (windows.Table slot) → ⊥
           table w = not_there (ap data_slot w) (λ z. absurd (table_not access.offset w z))

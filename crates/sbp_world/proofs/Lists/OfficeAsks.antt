@@ -23,10 +23,9 @@ use Rattle.sbp_world.proofs.Hosts.SentMoments.{sent_there}
 use Rattle.sbp_world.specs.Lists.Contents.{IsAsked}
 use Rattle.sbp_world.proofs.Lists.ContentManages.{Moves, bound, drops, its_by, keeps, moment_moves, puts}
 use Rattle.sbp_world.proofs.Lists.ManageTerms.{none_is, same_some}
-use Rattle.sbp_world.proofs.Agents.Handed.{is_its_serial}
 use Rattle.sbp_world.proofs.Lists.KeptReplies.{HasRead, brought, kept, reply_read}
 use Rattle.sbp_world.proofs.Lists.Quiet.{AllQuiet, IsQuiet}
-use Rattle.sbp_world.proofs.Common.{untrue}
+use Rattle.sbp_world.proofs.Common.{untrue, serial_is}
 
 -- ---- a moment but that at which a packet is got leaves what the management asks for, or nothing of it
 -- with its operation
@@ -281,7 +280,7 @@ module _ (whose : ℕ) (May : ℕ → Type 0) where
           by : (b : Bool) → is_serial T.manages own ≡ b → So (office_of (laws_replied own answer T))
           by true e has =
               let left = own_reply own answer T e in
-              subst AsksSo (sym (ap asks_of left)) (replied_by own closed (is_its_serial T.manages own e) T.manager.operation refl (source_left own (laws_replied own answer T).manager (ap (λ (o : Office). o.manager) left) has))
+              subst AsksSo (sym (ap asks_of left)) (replied_by own closed (serial_is T.manages own e) T.manager.operation refl (source_left own (laws_replied own answer T).manager (ap (λ (o : Office). o.manager) left) has))
           by false e has = subst AsksSo (sym (ap asks_of (other_reply own answer T e))) rest_so
 
       -- one is started

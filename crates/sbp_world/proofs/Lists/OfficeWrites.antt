@@ -94,15 +94,34 @@ module _ (units ready : ℕ) (more_units : 0 < units) (start : List Disk) {past 
       pub op_placed : IsInAPlace op
       op_placed = record { place = own_op.place; small = own_op.small; orb = own_op.orb }
 
-    -- what answers its request comes of the initiator
-    module _ (serial : ℕ) (own : ℕ) (closed : answered_at t serial ≡ Some own) (manages : (target_at start before).manages ≡ Some own) where
-      -- its request went to that initiator, and its answer comes from there
+    -- its request goes to the initiator
+    module _ (own : ℕ) (manages : (target_at start before).manages ≡ Some own) where
       request : HasRequest t w.target.layer op.source (target_at start before).manages
       request = subst (λ (s : Option ℕ). Awaits t w.target.layer s (target_at start before).manages) (ap source_in there) h.at.awaits
 
       request_is : request.serial ≡ own
       request_is = same_some request.serial own (sym request.manages_is ∙ manages)
 
+      abbrev v : Transaction
+      v = transaction (t.generation 0) 0 request.peer request.number
+
+      awaited_there : IsAwaited (terms stands.wire.past) v request.kind request.serial
+      awaited_there = goes_on.awaited stands.wire v request.kind request.serial stands.reached (ap (λ (y : Terms). y.held v) (past_terms w stands) ∙ request.waits_for)
+
+      goes_there : receiver_in (t.sent own) ≡ Some request.peer
+      goes_there =
+          let same = past_terms w stands in
+          let a : IsAwaited (terms stands.wire.past) v request.kind request.serial = goes_on.awaited stands.wire v request.kind request.serial stands.reached (ap (λ (y : Terms). y.held v) same ∙ request.waits_for) in
+          subst (λ r. receiver_in (t.sent r) ≡ Some request.peer) request_is (ap (λ (y : Terms). receiver_in (y.sent request.serial)) (sym same) ∙ awaited_to (terms stands.wire.past) v request.kind request.serial a)
+
+      peer_is : request.peer ≡ suc i
+      peer_is = same_id w stands request.peer (suc i) (request.peer_is ∙ source)
+
+      pub goes_of : receiver_in (t.sent own) ≡ Some (suc i)
+      goes_of = goes_there ∙ ap (λ n. Some n) peer_is
+
+    -- what answers its request comes of the initiator
+    module _ (serial : ℕ) (own : ℕ) (closed : answered_at t serial ≡ Some own) (manages : (target_at start before).manages ≡ Some own) where
       reply : IsReply t serial own
       reply = reply_by t serial own (t.sent serial) refl closed
 
@@ -127,28 +146,13 @@ module _ (units ready : ℕ) (more_units : 0 < units) (start : List Disk) {past 
       goes_to : receiver_in (t.sent own) ≡ Some q.from
       goes_to = ap (λ (y : Terms). receiver_in (y.sent own)) (sym (past_terms w stands)) ∙ awaited_to (terms stands.wire.past) u held.kind own awaited
 
-      abbrev v : Transaction
-      v = transaction (t.generation 0) 0 request.peer request.number
-
-      awaited_there : IsAwaited (terms stands.wire.past) v request.kind request.serial
-      awaited_there = goes_on.awaited stands.wire v request.kind request.serial stands.reached (ap (λ (y : Terms). y.held v) (past_terms w stands) ∙ request.waits_for)
-
       asked_from : asking.from ≡ 0
       asked_from =
-          let sent : t.sent own ≡ Some awaited_there.packet = subst (λ r. t.sent r ≡ Some awaited_there.packet) request_is (ap (λ (y : Terms). y.sent request.serial) (sym (past_terms w stands)) ∙ awaited_there.sent) in
-          ap (λ (x : Sending). x.from) (same_some asking awaited_there.packet (sym asking_sent ∙ sent)) ∙ awaited_from (terms stands.wire.past) v request.kind request.serial awaited_there
-
-      goes_there : receiver_in (t.sent own) ≡ Some request.peer
-      goes_there =
-          let same = past_terms w stands in
-          let a : IsAwaited (terms stands.wire.past) v request.kind request.serial = goes_on.awaited stands.wire v request.kind request.serial stands.reached (ap (λ (y : Terms). y.held v) same ∙ request.waits_for) in
-          subst (λ r. receiver_in (t.sent r) ≡ Some request.peer) request_is (ap (λ (y : Terms). receiver_in (y.sent request.serial)) (sym same) ∙ awaited_to (terms stands.wire.past) v request.kind request.serial a)
-
-      peer_is : request.peer ≡ suc i
-      peer_is = same_id w stands request.peer (suc i) (request.peer_is ∙ source)
+          let sent : t.sent own ≡ Some (awaited_there own manages).packet = subst (λ r. t.sent r ≡ Some (awaited_there own manages).packet) (request_is own manages) (ap (λ (y : Terms). y.sent (request own manages).serial) (sym (past_terms w stands)) ∙ (awaited_there own manages).sent) in
+          ap (λ (x : Sending). x.from) (same_some asking (awaited_there own manages).packet (sym asking_sent ∙ sent)) ∙ awaited_from (terms stands.wire.past) (v own manages) (request own manages).kind (request own manages).serial (awaited_there own manages)
 
       comes_from : q.from ≡ suc i
-      comes_from = same_some q.from request.peer (sym goes_to ∙ goes_there) ∙ peer_is
+      comes_from = same_some q.from (suc i) (sym goes_to ∙ goes_of own manages)
 
       asked_to : asking.to ≡ suc i
       asked_to = same_some asking.to q.from (sym (ap receiver_in asking_sent) ∙ goes_to) ∙ comes_from

@@ -1,5 +1,5 @@
 -- The list that is open at an agent is its initiator's latest one, and no other agent has one of that initiator open.
-use Rattle.sbp_world.proofs.Words.Std.{arith, ◌≡◌, ◌∙◌, refl, sym, ap, subst, ◌<◌, ◌≤◌, ◌+◌, ℕ, suc, nat_eq, nat_lt, Bool, true, false, cond, List, ◌∷◌, ◌++◌, length, Option, Some, None, Ok, nat_tests, false≢true, same_Some}
+use Rattle.sbp_world.proofs.Words.Std.{arith, ◌≡◌, ◌∙◌, refl, sym, ap, subst, ◌<◌, ◌≤◌, ◌+◌, ℕ, suc, nat_eq, nat_lt, Bool, true, false, cond, List, ◌∷◌, ◌++◌, length, Option, Some, None, Ok, nat_tests, same_Some}
 use Rattle.sbp_world.proofs.Words.Wire.{Packet, reading, Holder, or_nobody, Moment, said, Sending, terms}
 use Rattle.sbp_world.proofs.Words.Target.{Disk, demand_of}
 use Rattle.sbp_world.proofs.Words.Initiator.{start, PresentList, last_at, last_in, SlotTable, slot_in, TicketParts}

@@ -1,5 +1,5 @@
 -- An initiator's present list is its latest one.
-use Rattle.sbp_world.proofs.Words.Std.{arith, ◌≡◌, ◌∙◌, refl, sym, ap, ℕ, suc, ◌==◌, nat_eq, Bool, true, false, cond, List, [], ◌∷◌, Some, None, nat_tests, false≢true, none-some, same_Some}
+use Rattle.sbp_world.proofs.Words.Std.{arith, ◌≡◌, ◌∙◌, refl, sym, ap, ℕ, suc, ◌==◌, nat_eq, Bool, true, false, cond, List, [], ◌∷◌, Some, None, nat_tests, none-some, same_Some}
 use Rattle.sbp_world.proofs.Words.Wire.{Moment, asked, said}
 use Rattle.sbp_world.proofs.Words.Laws.{present_list, lists, EachMoment}
 use Rattle.sbp_world.proofs.Words.World.{MayAppend, MayStand}

@@ -4,7 +4,7 @@ use Rattle.sbp_world.proofs.Words.Wire.{Moment, asked, said, Sending, Transactio
 use Rattle.sbp_journal.specs.declared.cause.Cause.TheVariants as causes
 use Rattle.sbp_journal.specs.declared.event.Event.TheVariants as events
 use Rattle.sbp_journal.specs.declared.note.Note.TheVariants as notes
-use Rattle.sbp_world.proofs.Lists.ManageTerms.{closes_if_news, judges_news, part_news}
+use Rattle.sbp_world.proofs.Lists.ManageTerms.{judges_news, part_news}
 
 module _ (r : ℕ) where
   abbrev Grows : Terms → Terms → Type 0

@@ -1,5 +1,5 @@
 -- Who wrote ORB_POINTER: a packet of a node that asks for a register of an agent, and is not barred, is of the initiator of the login of its place, whom the terms have there too.
-use Rattle.sbp_world.proofs.Words.Std.{◌≡◌, ◌∙◌, refl, sym, ap, subst, ◌<◌, ◌&&◌, not, nat_eq, ℕ, suc, ◌+◌, Bool, true, false, cond, List, length, Option, Some, None, Ok, arith, nat_tests, false≢true}
+use Rattle.sbp_world.proofs.Words.Std.{◌≡◌, ◌∙◌, refl, sym, ap, subst, ◌<◌, ◌&&◌, not, nat_eq, ℕ, suc, ◌+◌, Bool, true, false, cond, List, length, Option, Some, None, Ok, arith, nat_tests}
 use Rattle.sbp_world.proofs.Words.Wire.{Packet, header_in, reading, Node, judging_step, of_request, Sent, found_sent, Moment, Terms, terms, Holder, or_nobody}
 use Rattle.sbp_world.proofs.Words.Target.{Login, Table, if_of_node, is_live, place_at, Disk, Access, AgentRegister, demand_of, is_lock, offset_in, reached, register_at, row_of, is_barred_at, NodeState, login_at, is_barred}
 use Rattle.sbp_world.proofs.Words.Laws.{term_initiator, initiator_with, node_in, over, target_at}

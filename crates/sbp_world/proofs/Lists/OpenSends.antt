@@ -1,4 +1,5 @@
 -- As the target sent a read that an agent waits for, to an initiator that injected no packets, the latest list of this initiator was open: this agent alone of the initiator's was out of RESET, and the pointer that it took named the list. A turn keeps this.
+use Rattle.sbp_world.proofs.Common.{same_node}
 use Rattle.sbp_world.proofs.Words.Std.{inl, inr, ◌⊎◌, arith, ◌≡◌, ◌∙◌, refl, sym, ap, subst, ◌<◌, ◌≤◌, ◌+◌, not, ℕ, suc, nat_lt, Bool, true, false, List, [], ◌∷◌, ◌++◌, map, Option, Some, None, nat_tests}
 use Rattle.sbp_world.proofs.Words.Wire.{Access, Moment, said, Sending, terms, Note, SerialsCount}
 use Rattle.sbp_world.proofs.Words.Target.{Phase, Which, Ahead, Main, state_in, is_reset, Disk}
@@ -49,9 +50,6 @@ AreOpenReads start past = (place : ℕ) → place < 8 → (which : Which) (seria
 received : (so : Option Sending) (i : ℕ) → receiver_in so ≡ Some i → (packet : Sending) × (so ≡ Some packet)
 received None i e = none_is i e
 received (Some packet) i e = (packet, refl)
-
-same_number : (i j : ℕ) → Some (suc i) ≡ Some (suc j) → i ≡ j
-same_number i j e = cc
 
 -- ---- packets leave the pointers
 module _ (start : List Disk) where
@@ -165,7 +163,7 @@ module _ (units ready : ℕ) (has : 0 < units) (start : List Disk) (past : List 
   asked = waiting units ready has start v h site place b which serial r.waits
 
   i_is : i ≡ initiator_in v place
-  i_is = same_number i (initiator_in v place) (sym r.to ∙ asked.to)
+  i_is = same_node i (initiator_in v place) (sym r.to ∙ asked.to)
 
   calm : IsCalm (hist past v) (initiator_in v place)
   calm = subst (IsCalm (hist past v)) i_is r.calm

@@ -11,13 +11,13 @@ use Rattle.sbp_target.specs.Serving.{asked_at}
 use Rattle.sbp_target.proofs.Histories.Calling.{Good}
 use Rattle.sbp_target.proofs.Histories.Following.{IsServed}
 use Rattle.sbp_world.proofs.Agents.AskedLate.{quiet_follow}
-use Rattle.sbp_world.proofs.Lists.SameAgents.{set_there}
+use Rattle.sbp_world.proofs.Lists.SameAgents.{set_there, changed_same}
 use Rattle.sbp_world.proofs.Lists.OpenCuts.{Here, Listing, is_up, Open, OwnsLogin, desk_more}
 use Rattle.sbp_world.proofs.Lists.OpenFollows.{Beside, alike, announce_from_beside, follow_beside}
 use Rattle.sbp_world.proofs.Lists.OpenManages.{answers}
 use Rattle.sbp_world.proofs.Lists.OpenPlaces.{Has, opened_here, opened_there}
 use Rattle.sbp_world.proofs.Lists.OpenSpares.{SameCuts}
-use Rattle.sbp_world.proofs.Lists.OpenTurns.{AreSeated, Before, HasSeat, K, Q, begins, changed_same, first_beside, here, inside, listing_seat, node, of_beside, served_seat, silent_by, sound}
+use Rattle.sbp_world.proofs.Lists.OpenTurns.{AreSeated, Before, HasSeat, K, Q, begins, first_beside, here, inside, listing_seat, node, of_beside, served_seat, silent_by, sound}
 use Rattle.sbp_world.proofs.Lists.Pointers.{refused}
 
 module _ (w : WorldState) (g : Good w.target) (seats : AreSeated w) (u : WorldState) (same : u.places ≡ w.places) (layer : Layer Purpose) where
@@ -48,7 +48,7 @@ module _ (w : WorldState) (g : Good w.target) (seats : AreSeated w) (u : WorldSt
         let st : Stage = (replied run q login.unit which answer (stage there disks)).1 in
         let loaded = came (disk_at disks login.unit) (disk_at st.disks login.unit) in
         let later = changed_by loaded login.unit q st.node in
-        let c = changed_same w g seats u same layer q b loaded login.unit q st.node in
+        let c = changed_same loaded login.unit q st.node in
         let start = first_beside w g seats u same layer q b d in
         let s = scene later empty_outbox in
         let m : By s = alike u u.places q (Here w.target) b (scene (with_desk there q d) empty_outbox) s (record { desks = c.desks; agents = c.agents }) refl start in

@@ -2,7 +2,7 @@
 -- write of ORB_POINTER, which opens the list of one place.
 use Rattle.sbp_world.proofs.Words.Std.{◌≡◌, inl, ◌∙◌, refl, sym, ap, subst, ◌<◌, ◌≤◌, ℕ, nat_eq, nat_lt, not, Bool, true, false, List, length, Option, Some, None, arith, nat_tests, length-set, false≢true}
 use Rattle.sbp_world.proofs.Words.Wire.{LabelParts, Layer, Holder, or_nobody, empty_outbox}
-use Rattle.sbp_world.proofs.Words.Target.{Login, IsSound, is_live, place_at, Phase, Which, Ahead, Main, Machine, is_ahead, is_sent, state_in, doorbell_step, is_reset, Desk, Purpose, is_that, new_desk, which_in, NodeState, Scene, desk_at, login_at, scene, with_desk, changed_by}
+use Rattle.sbp_world.proofs.Words.Target.{Login, IsSound, is_live, place_at, Phase, Which, Ahead, Main, Machine, is_ahead, is_sent, state_in, doorbell_step, is_reset, Desk, Purpose, is_that, new_desk, which_in, NodeState, Scene, desk_at, login_at, scene, with_desk}
 use Rattle.sbp_world.proofs.Words.Initiator.{Nothing}
 use Rattle.sbp_world.proofs.Words.World.{holder, told_all, WorldState, has_list}
 use Rattle.command_agent.specs.declared.phase.Phase.TheVariants as phases
@@ -10,7 +10,7 @@ use Rattle.sbp_target.proofs.Histories.Calling.{Good, not_eight}
 use Rattle.sbp_target.proofs.Histories.Following.{IsServed}
 use Rattle.sbp_target.proofs.Histories.Stepped.{is_bare}
 use Rattle.sbp_world.proofs.Agents.AskedLate.{ahead_of, main_of}
-use Rattle.sbp_world.proofs.Lists.SameAgents.{AreSame, are_self, set_there}
+use Rattle.sbp_world.proofs.Lists.SameAgents.{set_there}
 use Rattle.sbp_world.proofs.Lists.OpenCuts.{Here, Listing, is_up, Open, OwnsLogin}
 use Rattle.sbp_world.proofs.Lists.OpenFollows.{Beside}
 use Rattle.sbp_world.proofs.Lists.OpenPlaces.{Has}
@@ -177,7 +177,3 @@ module _ (w : WorldState) (g : Good w.target) (seats : AreSeated w) where
               let one : q ≡ p = grind (arith, nat_tests) in
               subst (λ j. OwnsLogin (Before j) w.target.logins.places (holder w j) j) one (own_at q (listing_seat q b l) l)
           own_for p c false x e = let o = before p x e in own_at p (listing_seat p c o) o
-
-      pub changed_same : (x : Bool) (unit place : ℕ) (one : NodeState) → AreSame one (changed_by x unit place one)
-      changed_same true unit place one = record { desks = refl; agents = λ p. refl }
-      changed_same false unit place one = are_self one

@@ -1,5 +1,5 @@
 -- A list whose write of ORB_POINTER was not taken was not cut; and a list that is open was not cut: the write is got once, at one place.
-use Rattle.sbp_world.proofs.Words.Std.{arith, ◌≡◌, ◌⊎◌, inl, inr, ◌∙◌, refl, sym, ap, subst, ◌<◌, ◌≤◌, ℕ, Bool, true, false, List, [], ◌∷◌, ◌++◌, Option, Some, None, Ok, false≢true, same_Some}
+use Rattle.sbp_world.proofs.Words.Std.{arith, ◌≡◌, ◌⊎◌, inl, inr, ◌∙◌, refl, sym, ap, subst, ◌<◌, ◌≤◌, ℕ, Bool, true, false, List, [], ◌∷◌, ◌++◌, Option, Some, None, Ok, same_Some}
 use Rattle.sbp_world.proofs.Words.Wire.{Packet, reading, Holder, Moment, said, Sending, terms}
 use Rattle.sbp_world.proofs.Words.Target.{demand_of}
 use Rattle.sbp_world.proofs.Words.Initiator.{slot_of}

@@ -11,8 +11,8 @@ use Rattle.sbp_journal.specs.declared.cause.Judged.TheVariants as judgements
 use Rattle.sbp_journal.specs.declared.note.Note.TheVariants as notes
 use Rattle.sbp_journal.specs.declared.operation.OpWord.TheVariants as words
 use Rattle.sbp_world.proofs.Pointers.Dropping.{drops_of}
-use Rattle.sbp_world.proofs.Lists.ManageTerms.{none_is}
 use Rattle.sbp_world.proofs.Common.{untrue}
+use Rattle.sbp_world.proofs.Hosts.PresentOrbs.{present_by}
 
 pub record IsDoneFor (s : InitiatorState) (generation : ℕ) (bytes : List ℕ) : Type 0 where
   pub header : Header
@@ -28,15 +28,6 @@ pub record IsDoneFor (s : InitiatorState) (generation : ℕ) (bytes : List ℕ) 
   pub is : s.operation ≡ Some running
   pub names : is_orb_of running.managed block.orb ≡ true
   pub cuts : ends_list (Some running.operation) ≡ true
-
--- the operation that a status block is of
-record IsPresent (orb : ℕ) (operation : Option Running) (running : Running) : Type 0 where
-  is : operation ≡ Some running
-  named : is_orb_of running.managed orb ≡ true
-
-present_by : (orb : ℕ) (operation : Option Running) (running : Running) (b : Bool) → is_present_orb orb operation ≡ b → cond b operation None ≡ Some running → IsPresent orb operation running
-present_by orb operation running true f e = record { is = e; named = ap (λ (o : Option Running). is_present_orb orb o) (sym e) ∙ f }
-present_by orb operation running false f e = none_is running e
 
 module _ (j : ℕ) (s : InitiatorState) (generation : ℕ) (bytes : List ℕ) where
   abbrev Done : Type 0

@@ -1,5 +1,5 @@
 -- Why each list of an initiator is dropped, in every run.
-use Rattle.sbp_world.proofs.Words.Std.{arith, ◌≡◌, ◌∙◌, refl, sym, ap, subst, ◌<◌, ◌==◌, ◌||◌, not, ℕ, zero, suc, nat_eq, Bool, true, false, List, [], ◌∷◌, ◌++◌, map, Option, None, nat_tests}
+use Rattle.sbp_world.proofs.Words.Std.{arith, ◌≡◌, ◌∙◌, refl, sym, ap, subst, ◌<◌, ◌==◌, not, ℕ, zero, suc, nat_eq, Bool, true, false, List, [], ◌∷◌, ◌++◌, map, Option, None, nat_tests}
 use Rattle.sbp_world.proofs.Words.Wire.{judged_note, empty_outbox, Moment, asked, said, Judged, Action, Note, Side}
 use Rattle.sbp_world.proofs.Words.Target.{Told}
 use Rattle.sbp_world.proofs.Words.Initiator.{act_step, Turn, new_state, expire_step, receive_step, see_step, InitiatorState, own}
@@ -28,7 +28,7 @@ use Rattle.sbp_world.proofs.Pointers.Guarding.{first_guarded, guarded_carried, r
 use Rattle.sbp_world.proofs.Lists.OpenedEnds.{Drops, drops_by_sight, heard_drops}
 use Rattle.sbp_world.proofs.Hosts.Pointed.{judged_fit}
 use Rattle.sbp_world.proofs.Pointers.Passing.{turn_same}
-use Rattle.sbp_world.proofs.Common.{untrue}
+use Rattle.sbp_world.proofs.Common.{untrue, or_left, or_right}
 
 -- at each drop of its list
 abbrev pub DropAt : ℕ → Moment → List Moment → Type 0
@@ -73,20 +73,12 @@ one_kept : (note : Note) (past : List Moment) (i : ℕ) → (is_drop i (sides.Ow
 one_kept (notes.Drop j n) past i d = d
 one_kept note past i d = tt
 
-pub either : (a b : Bool) → a ≡ true → (a || b) ≡ true
-either true b e = refl
-either false b e = untrue e
-
-pub or_else : (a b : Bool) → b ≡ true → (a || b) ≡ true
-or_else true b e = refl
-or_else false b e = e
-
 told_kept : (told : List Side) (past : List Moment) (i : ℕ) → AreTame told → AreStill told → (drops_of i told ≡ true → Fit past → Drops (turn_of past) i) → AllDrops i past → AllDrops i (behind told past)
 told_kept [] past i t l d h = h
 told_kept (sides.Own note ∷ later) past i t l d h =
     told_kept later (said note ∷ past) i t.1 l.1
-    (λ x fit. subst (λ ms. Drops ms i) (sym (turn_same note past t.0 l.0)) (d (or_else (is_drop i (sides.Own note)) (drops_of i later) x) (fit_before note past t.0 fit)))
-    (one_kept note past i (λ x fit. d (either (is_drop i (sides.Own note)) (drops_of i later) x) fit), h)
+    (λ x fit. subst (λ ms. Drops ms i) (sym (turn_same note past t.0 l.0)) (d (or_right (is_drop i (sides.Own note)) (drops_of i later) x) (fit_before note past t.0 fit)))
+    (one_kept note past i (λ x fit. d (or_left (is_drop i (sides.Own note)) (drops_of i later) x) fit), h)
 told_kept (_ ∷ later) past i t l d h = absurd t.0
 
 none_kept : (told : List Side) (past : List Moment) (i : ℕ) → AreTame told → AreStill told → drops_of i told ≡ false → AllDrops i past → AllDrops i (behind told past)

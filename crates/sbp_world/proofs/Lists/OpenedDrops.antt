@@ -1,6 +1,6 @@
 -- In a turn of others than the target a list stays the present one, where nothing drops it; and no list begins while it is the present one, nor in a
 -- generation that the target has not seen.
-use Rattle.sbp_world.proofs.Words.Std.{arith, ◌≡◌, ◌∙◌, refl, sym, ap, subst, ◌<◌, ◌==◌, ℕ, suc, nat_eq, Bool, true, false, cond, List, [], ◌∷◌, ◌++◌, map, Some, None, nat_tests, false≢true, none-some, same_Some}
+use Rattle.sbp_world.proofs.Words.Std.{arith, ◌≡◌, ◌∙◌, refl, sym, ap, subst, ◌<◌, ◌==◌, ℕ, suc, nat_eq, Bool, true, false, cond, List, [], ◌∷◌, ◌++◌, map, Some, None, nat_tests, false≢true, none-some}
 use Rattle.sbp_world.proofs.Words.Wire.{Moment, said, terms, Note}
 use Rattle.sbp_world.proofs.Words.Laws.{present_list, lists, EachMoment}
 use Rattle.sbp_world.proofs.Words.World.{MayAppend, MayStand, turn_of, AllOf, Ends, ends_by_reset, ends_by_sight, ends_by_state, ends_by_status, EndsAt, of_rest}

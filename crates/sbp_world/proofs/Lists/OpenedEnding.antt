@@ -1,9 +1,8 @@
 -- Why each list of an initiator is dropped, in every run: by the wire, the packet that brought it is one of the target, which was not judged before.
-use Rattle.sbp_world.proofs.Words.Std.{arith, ◌≡◌, ◌∙◌, refl, sym, ap, subst, ◌<◌, not, ℕ, suc, Bool, true, false, List, [], ◌∷◌, ◌++◌, map, Option, Some}
-use Rattle.sbp_world.proofs.Words.Wire.{write_block, Moment, asked, said, Sending, between, writing, terms}
+use Rattle.sbp_world.proofs.Words.Std.{◌≡◌, ◌∙◌, refl, sym, ap, subst, ◌<◌, ℕ, suc, Bool, true, false, List, [], ◌∷◌, ◌++◌, map}
+use Rattle.sbp_world.proofs.Words.Wire.{write_block, Moment, asked, said, Sending, terms}
 use Rattle.sbp_world.proofs.Words.Laws.{EachMoment}
 use Rattle.sbp_world.proofs.Words.World.{history_of, after, beginning, after_all, WorldState, begun, IsOfWire, Stands, more_deliveries, turn_of, Always, AreEnds, Ends, EndsAt, IsDoneNow, ends_by_reset, ends_by_sight, ends_by_state, ends_by_status}
-use Rattle.bus_transactions.proofs.Facts.{asked_begun, request_asked}
 use Rattle.bus_transactions.proofs.PacketParts.{part_read}
 use Rattle.sbp_journal.specs.declared.note.Note.TheVariants as notes
 use Rattle.sbp_world.proofs.FitInitiator.Law.{fitting_law as own_fitting_law}
@@ -15,8 +14,7 @@ use Rattle.sbp_world.proofs.Hosts.Runs.{count_after, count_between}
 use Rattle.sbp_world.proofs.Pointers.Guarded.{Guarded}
 use Rattle.sbp_world.proofs.Pointers.Guarding.{first_guarded, guarded_carried, ready_known}
 use Rattle.sbp_world.proofs.Lists.Calm.{injects_before}
-use Rattle.sbp_world.proofs.Lists.ManageKnown.{OfWire, before_it, current_of, write_of}
-use Rattle.sbp_world.proofs.Lists.ManageTerms.{got_more, got_rests}
+use Rattle.sbp_world.proofs.Lists.ManageKnown.{OfWire, before_it, current_of, not_judged}
 use Rattle.sbp_world.proofs.Lists.ManageWire.{WireMoments, wire_moments}
 use Rattle.sbp_world.proofs.Lists.OpenedCauses.{AllDrops, DropAt, drops_after, drops_between}
 use Rattle.sbp_world.proofs.Lists.OpenedEnds.{Drops, IsBlockGot, drops_by_block, drops_by_reset, drops_by_sight, drops_by_state}
@@ -54,19 +52,11 @@ module _ (serial i : ℕ) (earlier : List Moment) (w : OfWire (said (notes.Got s
   honest_by false e = refl
   honest_by true e = untrue (sym target_fair ∙ ap (terms earlier).injects (sym from) ∙ (w.moments.0.facts.honest serial p d.sent).bold e)
 
-  sent_later : (terms later).sent serial ≡ Some p
-  sent_later = ap (λ (f : ℕ → Option Sending). f serial) (got_rests serial earlier).sent ∙ d.sent
-
   -- it was not judged before
   fresh : (terms earlier).news serial ≡ 0
   fresh =
-      let part = part_read p.bytes (write_block d.header d.offset d.payload) d.spelled in
-      let h = honest_by p.injected refl in
-      let v = between p p.from p.to d.header.label in
-      let b = asked_begun p v h (request_asked p d.header.label writing part) in
-      let most = (w.moments.0.later.counts serial p sent_later).most v b (write_of p.bytes d.header.label part) (ap (λ m. not ((terms later).injects m)) from ∙ ap not w.fair) in
-      let m = got_more serial earlier p d.sent in
-      omega (arith, most, m)
+      not_judged serial earlier p w.moments.0.later d.sent (honest_by p.injected refl) (ap (terms later).injects from ∙ w.fair)
+      d.header.label (part_read p.bytes (write_block d.header d.offset d.payload) d.spelled)
 
   done_now : IsDoneNow earlier serial i
   done_now = record {

@@ -28,8 +28,8 @@ use Rattle.sbp_world.specs.Lists.Opened.{IsAnswered}
 use Rattle.sbp_world.proofs.Lists.ManageFinds.{read_request}
 use Rattle.sbp_world.proofs.Lists.ManageTerms.{none_is, same_some}
 use Rattle.sbp_world.proofs.Lists.OpenedBlocks.{IsDoneFor, request_drops}
-use Rattle.sbp_world.proofs.Pointers.Ending.{complete_ends, first_of, zero_ends}
-use Rattle.sbp_world.proofs.Common.{untrue}
+use Rattle.sbp_world.proofs.Pointers.Ending.{complete_ends, zero_ends}
+use Rattle.sbp_world.proofs.Common.{untrue, and_first}
 
 -- ---- by the moment that began the turn
 
@@ -73,7 +73,7 @@ counts_by None present e = untrue e
 counts_by (Some list) present e = record { number = list; is = refl; there = e }
 
 counts_of : (list : Option ℕ) (ending : Ending) (present : Option PresentList) → state_drops list ending present ≡ true → CountsFor list present
-counts_of list (endings.Complete value) present e = counts_by list present (first_of (counts_for present list) (value == 0) e)
+counts_of list (endings.Complete value) present e = counts_by list present (and_first (counts_for present list) (value == 0) e)
 counts_of list (endings.Refused rcode) present e = untrue e
 counts_of list endings.Expired present e = untrue e
 

@@ -1,5 +1,5 @@
 -- What others than the target do keeps it, for which list an agent is out of RESET, where no list is dropped that such an agent has.
-use Rattle.sbp_world.proofs.Words.Std.{arith, ◌≡◌, ◌⊎◌, inl, inr, ◌∙◌, refl, sym, ap, subst, ◌<◌, ◌≤◌, ℕ, suc, nat_eq, nat_lt, Bool, true, false, Some, nat_tests, same_Some}
+use Rattle.sbp_world.proofs.Words.Std.{arith, ◌≡◌, ◌⊎◌, inl, inr, ◌∙◌, refl, sym, ap, subst, ◌<◌, ◌≤◌, ℕ, suc, nat_eq, nat_lt, Bool, true, false, Some, nat_tests}
 use Rattle.sbp_world.proofs.Words.Wire.{Sending, Operation}
 use Rattle.sbp_world.proofs.Words.Initiator.{start}
 use Rattle.sbp_world.proofs.Words.Laws.{cuts_list, is_management}

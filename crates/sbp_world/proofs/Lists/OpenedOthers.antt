@@ -1,5 +1,5 @@
 -- What initiators do, and what comes to them, keeps it, for which list an agent of the target is out of RESET.
-use Rattle.sbp_world.proofs.Words.Std.{arith, ◌≡◌, ◌∙◌, refl, sym, ap, subst, ◌==◌, ◌+◌, ◌-◌, not, ℕ, suc, nat_eq, nat_lt, Bool, true, false, cond, List, ◌∷◌, ◌++◌, map, length, Option, Some, None, slice_index_or, slice_set, nat_tests, false≢true}
+use Rattle.sbp_world.proofs.Words.Std.{arith, ◌≡◌, ◌∙◌, refl, sym, ap, subst, ◌==◌, ◌+◌, ◌-◌, not, ℕ, suc, nat_eq, nat_lt, Bool, true, false, cond, List, ◌∷◌, ◌++◌, map, length, Option, Some, None, slice_index_or, slice_set, nat_tests}
 use Rattle.sbp_world.proofs.Words.Wire.{as_sending, Sent, found_sent, Request, id_of, judged_note, no_packet, empty_outbox, Moment, asked, said, terms, Judged, Action, Event, Note}
 use Rattle.sbp_world.proofs.Words.Initiator.{act_step, Turn, new_state, expire_step, receive_step, see_step, InitiatorState}
 use Rattle.sbp_world.proofs.Words.World.{marked, with_initiators, handed_out, acted, acted_by, weight_in, handed_all, initiator_learns, reset_line, see_line, target_learns, told_seen, with_seen, at_initiator, initiator_expires, inject_line, injected, injected_to, is_in_flight, lose_line, lost, refused, timed_out, posted, WorldState, initiator_at, with_initiator, with_note, without_notes, Stands, turn_of, IsCalm, AllOf, AreOpenFor, Ends, IsOpenFor, IsUp, View, view}

@@ -1,6 +1,6 @@
 -- What the target does keeps it, for which list an agent is out of RESET.
 use Rattle.sbp_world.proofs.Words.Std.{arith, ◌≡◌, ◌⊎◌, inl, ◌∙◌, refl, sym, ap, subst, ◌<◌, ℕ, suc, nat_eq, nat_lt, Bool, true, false, cond, List, ◌∷◌, ◌++◌, map, length, Option, Some, None, Result, Ok, Err, nat_tests, get_or-map, false≢true}
-use Rattle.sbp_world.proofs.Words.Wire.{Stale, Layer, expiring_step, seeing_step, seen_in_generation, Sent, found_sent, Request, id_of, judged_note, Node, OutboxState, empty_outbox, Moment, said, Transaction, Terms, terms, times_out, Judged, Note}
+use Rattle.sbp_world.proofs.Words.Wire.{Stale, Layer, expiring_step, seeing_step, Sent, found_sent, Request, id_of, judged_note, Node, OutboxState, empty_outbox, Moment, said, Transaction, Terms, terms, times_out, Judged, Note}
 use Rattle.sbp_world.proofs.Words.Target.{Login, held_login, is_live, place_at, Disk, Told, alone, sees, ticks, Purpose, NodeState, TargetScene, login_at, scene, cleared_node, expired, expired_in, reset_by, seen, with_key, cut_all}
 use Rattle.sbp_world.proofs.Words.Laws.{is_nothing, target_at}
 use Rattle.sbp_world.proofs.Words.World.{handed_out, keyed, no_unit, see_line, target_sees, target_ticks, tick_line, told_seen, with_seen, refused, target_left, timed_out, holder, Scene, WorldState, with_note, with_target, AreHeldAt, AreOthers, IsCalm, managed_for, AllOf, AreOpenFor, IsToldDone, IsUp, of_rest, view, AreOpened}
@@ -16,6 +16,7 @@ use Rattle.sbp_world.proofs.Wire.Starts.{laws_of}
 use Rattle.sbp_world.proofs.Agents.Management.Holding.{Holding, past_terms, was_sent}
 use Rattle.sbp_world.proofs.Agents.Management.Still.{hist}
 use Rattle.sbp_world.proofs.Hosts.Hands.{second_tells, sight_tells}
+use Rattle.sbp_world.proofs.Hosts.Knows.{seen_flag}
 use Rattle.sbp_world.proofs.Hosts.TargetGives as gives
 use Rattle.sbp_world.proofs.Lists.Generations.{is_sight}
 use Rattle.sbp_world.proofs.Lists.OpenDeliveries.{lapse_open}
@@ -186,14 +187,6 @@ module _ (units logins : ℕ) (has : 0 < units) (start : List Disk) {past : List
       let st = h.sound.stands in
       sym (ap (λ (l : Node). l.generation) (st.is.layers_are 0 (omega arith))) ∙ (((holds st.wire st.reached).nodes 0).generation ∙ ap (λ (x : Terms). x.generation 0) (past_terms w st))
 
-  flag_is : (layer : Layer Purpose) (generation id : ℕ) → (seeing_step layer generation id).0 ≡ nat_lt layer.generation generation
-  unfolding seeing_step
-  flag_is layer generation id = by (nat_lt layer.generation generation) refl
-    where
-      by : (c : Bool) → nat_lt layer.generation generation ≡ c → (cond {A = Bool × Layer Purpose} c (true, seen_in_generation layer generation id) (false, layer)).0 ≡ c
-      by true e = refl
-      by false e = refl
-
   module _ (opened : AreOpened (hist past (see_line 0 w)) (see_line 0 w)) where
     -- a login that is held is not live
     dead : (places : List (Option Login)) (p : ℕ) (login : Login) → place_at (map held_login places) p ≡ Some login → is_live login ≡ true → ⊥
@@ -215,7 +208,7 @@ module _ (units logins : ℕ) (has : 0 < units) (start : List Disk) {past : List
     sees_dead : (generation id : ℕ) (s : TargetScene) (p : ℕ) (login : Login) → s.node.layer.generation < generation → login_at (seen generation id s).1.node p ≡ Some login → is_live login ≡ true → ⊥
     unfolding seen
     sees_dead generation id s p login b f l =
-        held_all_dead (seeing_step s.node.layer generation id) s p login (flag_is s.node.layer generation id ∙ (let z : nat_lt s.node.layer.generation generation ≡ true = grind (arith, nat_tests) in z)) f l
+        held_all_dead (seeing_step s.node.layer generation id) s p login (seen_flag s.node.layer generation id ∙ (let z : nat_lt s.node.layer.generation generation ≡ true = grind (arith, nat_tests) in z)) f l
 
     pub sight_keeps : Tells start (hist past (see_line 0 w)) i → J (see_line 0 w)
     unfolding see_line nodes.sees target_sees

@@ -1,5 +1,5 @@
 -- Each turn of a world keeps it, for which list an agent is out of RESET.
-use Rattle.sbp_world.proofs.Words.Std.{arith, ◌≡◌, ◌∙◌, refl, sym, ap, subst, ◌<◌, ◌≤◌, not, ℕ, suc, nat_lt, Bool, true, false, List, [], ◌∷◌, ◌++◌, length, map, Option, Some, None, nat_tests, false≢true}
+use Rattle.sbp_world.proofs.Words.Std.{arith, ◌≡◌, ◌∙◌, refl, sym, ap, subst, ◌<◌, ◌≤◌, not, ℕ, suc, nat_lt, Bool, true, false, List, [], ◌∷◌, ◌++◌, length, map, Option, Some, None, nat_tests}
 use Rattle.sbp_world.proofs.Words.Wire.{SerialsCount, Due, Node, Stored, holder_at, Holder, Moment, said, Sending, Terms, terms, Note}
 use Rattle.sbp_world.proofs.Words.Target.{state_in, is_reset, NodeState, desk_at}
 use Rattle.sbp_world.proofs.Words.Laws.{EachMoment, Underway, access_in_bytes}

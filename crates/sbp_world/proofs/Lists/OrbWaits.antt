@@ -7,7 +7,6 @@ use Rattle.sbp_world.proofs.Words.Laws.{fifo_in, begun_in, waits_for, Agent, Rep
 use Rattle.sbp_world.proofs.Words.World.{AreAskedAt, HasAsked, WaitsForAsked, serial_of, more_deliveries, MayHappen, happens, ready_logins, is_in_flight, may_repeat, MayNext, delivered_at, delivered_next, lowest, Scene, WorldState, begun, without_notes, AskedAsGot, IsBrought}
 use Rattle.sbp_world.proofs.Agents.AskedRuns.{asked_between_law, asked_run_law}
 use Rattle.sbp_world.proofs.Agents.Management.Still.{hist}
-use Rattle.orb_layout.specs.declared.ask.FailCause.TheVariants as causes
 use Rattle.sbp_journal.specs.declared.event.Event.TheVariants as events
 use Rattle.sbp_journal.specs.declared.note.Note.TheVariants as notes
 use Rattle.sbp_world.specs.Settling.{MayAt}

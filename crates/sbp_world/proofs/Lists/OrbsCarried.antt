@@ -2,7 +2,7 @@
 use Rattle.sbp_world.proofs.Words.Std.{◌≡◌, refl, sym, ap, subst, ℕ, ◌*◌, ◌+◌, ◌^◌, ◌==◌, not, Bool, true, false, cond, List, [], ◌∷◌, length, Option, Some, None, Result, Ok, Err, is_none, position, unwrap_or, quad}
 use Rattle.sbp_world.proofs.Words.Wire.{Access, Start, management_agent, no_start, register, rom_start, start_at, start_serves, Event, Note, FunctionWord, Moment, asked, said, Part, part_of, request, response, Terms, terms}
 use Rattle.sbp_world.proofs.Words.Target.{Table, ManagerStep, Operation, decide, reads_eui, beside, cut_response, decide_step, decided_as, eui_step, high_eui_at, high_got, in_phase, low_got, orb_got, reply_in, reply_to, response_written, start_step, start_with, status_step, status_written, telling}
-use Rattle.sbp_world.proofs.Words.Initiator.{FailCause, ManagementOrb, management_orb, offset_at, Answer, Expired, Refused, payload_of, write_failure}
+use Rattle.sbp_world.proofs.Words.Initiator.{FailCause, ManagementOrb, management_orb, offset_at, Answer, Expired, payload_of, write_failure}
 use Rattle.sbp_world.proofs.Words.Laws.{access_at, access_in_bytes, answer_in, answered_at, id_for, packet_at, receiver_in, sender_in, Decided, Target, bytes_in, decided_by, decided_in, got_by, is_serial, is_write_access, keep_decided, key_by, known_at, over, laws_replied, request_got, reset_seen, sent_as, sent_for, taken_on, target_at, target_by, wants, wants_it, event_of}
 use Rattle.sbp_world.proofs.Words.World.{Office, at_rest, by_managed, by_note, office_of, placed, placed_by, replied, started, started_by, stepped, ticked, CarriedOrbsLaw, HasIn, HasOrb, IsOn, last_read, read_by, read_for, read_if, read_in}
 use Rattle.mgmt_agent.specs.declared.decision.Outcome.{Outcome}
@@ -10,7 +10,6 @@ use Rattle.mgmt_agent.specs.declared.operation.Phase.{Phase}
 use Rattle.mgmt_agent.specs.declared.operation.Phase.TheVariants as phases
 use Rattle.mgmt_agent.specs.Machine.{Machine, quiet, reply_step}
 use Rattle.orb_layout.specs.declared.ask.Ask.TheVariants as asks
-use Rattle.orb_layout.specs.declared.ask.FailCause.TheVariants as causes
 use Rattle.sbp_journal.specs.declared.event.Event.TheVariants as events
 use Rattle.sbp_journal.specs.declared.note.Note.TheVariants as notes
 use Rattle.sbp_journal.specs.declared.operation.FunctionWord.TheVariants as functions

@@ -1,5 +1,6 @@
 -- A response that the target takes for one to its management is the one to the request that the management waits for, by the history, from the node of the
 -- operation, and tells the laws what it tells the target.
+use Rattle.sbp_world.proofs.Common.{serial_is}
 use Rattle.sbp_world.proofs.Words.Std.{arith, ◌≡◌, ◌∙◌, refl, sym, ap, subst, ◌<◌, ◌==◌, ◌&&◌, ℕ, suc, nat_eq, not, Bool, true, false, cond, is_some, List, ◌∷◌, Option, Some, None, nat_tests, same_Some}
 use Rattle.sbp_world.proofs.Words.Wire.{LabelParts, rcode_of, Packet, header_in, lock, lock_response, read_block, read_block_response, read_quadlet, read_quadlet_response, write_block, write_quadlet, write_response, AnswerLaw, AnswersWaiting, IsAwaited, shape, Due, Node, as_sending, transaction, Finding, Layer, judging_step, of_response, state_for, is_write, reply_kind, Sent, found_kept, found_sent, Stored, Moment, said, Sending, Transaction, between, is_same_kind, part_of, response, Terms, terms, waits}
 use Rattle.sbp_world.proofs.Words.Target.{Operation, source_in, Disk, Purpose, answer_in, IsUnderWay, TransactionLaw}
@@ -34,7 +35,6 @@ use Rattle.sbp_world.proofs.Agents.Management.Still.{hist}
 use Rattle.sbp_world.proofs.Agents.Purposes.{Waits, g, held_waits, labels, law}
 use Rattle.sbp_world.specs.Lists.ReadOrbs.{IsAnswered}
 use Rattle.sbp_world.proofs.Lists.Heard.{Owned, Spells, awaited_to, same_kind, spells, stored_by}
-use Rattle.sbp_world.proofs.Agents.Handed.{is_its_serial}
 
 -- a write that is answered done has rcode 0
 refused_none : (cause : FailCause) → Some cause ≡ None → ⊥
@@ -207,7 +207,7 @@ module _ (units ready : ℕ) (has : 0 < units) (start : List Disk) {past : List 
       -- it answers the request of the operation
       pub manages_is : (target_at start (hist past w)).manages ≡ Some asked_by_it
       unfolding is_answer
-      manages_is = is_its_serial (target_at start (hist past w)).manages asked_by_it answers_it.own
+      manages_is = serial_is (target_at start (hist past w)).manages asked_by_it answers_it.own
 
       pub tells : laws.answer_in (laws.packet_at t serial) ≡ answer_in p
       unfolding answers_it

@@ -7,7 +7,6 @@ use Rattle.sbp_world.proofs.Words.Laws.{Underway, host_at, is_management, id_for
 use Rattle.sbp_world.proofs.Words.World.{history_of, moments_behind, ready_logins, Run, after, beginning, MayAll, after_all, WorldState, begun, Awaits, HasRequest, IsRun, more_deliveries, InPlaceLaw, IsInPlace, IsHandling, IsManaged, ManagingLaw, IsCalm, OpenBefore, OpenBetween, BringOrbs, IsReading, OperationsLast}
 use Rattle.bus_memory.specs.declared.window.Window.TheVariants as windows
 use Rattle.bus_transactions.proofs.Reaches.{goes_on}
-use Rattle.mgmt_agent.specs.declared.operation.Phase.TheVariants as phases
 use Rattle.mgmt_agent.specs.Machine.{Machine}
 use Rattle.sbp_world.proofs.Agents.Management.Holding.{Holding, past_terms}
 use Rattle.sbp_world.proofs.Agents.Management.Lines.{all_heard as all_hold, opens}

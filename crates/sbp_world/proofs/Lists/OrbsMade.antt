@@ -1,5 +1,5 @@
 -- A management ORB that stood in a place of an initiator was made in a line of an action of it, and is read back as it was made; where it asks for a login, a line of the initiator had asked for one on that unit.
-use Rattle.sbp_world.proofs.Words.Std.{arith, ◌≡◌, ◌∙◌, refl, sym, ap, subst, ℕ, suc, ◌+◌, ◌%◌, ◌^◌, ◌<◌, ◌==◌, ◌&&◌, ◌||◌, Bool, true, false, cond, List, [], ◌∷◌, ◌++◌, Option, Some, nat_tests}
+use Rattle.sbp_world.proofs.Words.Std.{arith, ◌≡◌, ◌∙◌, refl, sym, ap, subst, ℕ, suc, ◌+◌, ◌%◌, ◌^◌, ◌<◌, ◌==◌, ◌&&◌, Bool, true, false, cond, List, [], ◌∷◌, ◌++◌, Option, Some, nat_tests}
 use Rattle.sbp_world.proofs.Words.Wire.{Action, Event, Moment, asked, said}
 use Rattle.sbp_world.proofs.Words.Target.{Function, function_of}
 use Rattle.sbp_world.proofs.Words.Initiator.{ManagementOrb, management_bytes, management_orb}
@@ -10,7 +10,7 @@ use Rattle.sbp_journal.specs.declared.event.Action.TheVariants as actions
 use Rattle.sbp_journal.specs.declared.event.Event.TheVariants as events
 use Rattle.sbp_journal.specs.declared.note.Note.TheVariants as notes
 use Rattle.sbp_world.specs.Lists.LoginUnits.{asks_unit, is_asked_unit}
-use Rattle.sbp_world.proofs.Common.{and_first, moments_split, none_is, untrue}
+use Rattle.sbp_world.proofs.Common.{and_first, moments_split, none_is, untrue, or_left, or_right}
 use Rattle.sbp_world.proofs.Lists.OrbsShort.{event_short, login_small, orb_short}
 use Rattle.sbp_world.proofs.Lists.OwnOps.{short_from}
 use Rattle.sbp_world.proofs.Lists.OwnPlaces.{function_back, own_manages}
@@ -86,17 +86,9 @@ module _ (i m : ℕ) where
 subject_back : (o : ManagementOrb) → o.subject < 2 ^ 16 → (management_orb (management_bytes o)).subject ≡ o.subject
 subject_back o small = omega arith
 
-or_right : (a b : Bool) → b ≡ true → (a || b) ≡ true
-or_right true b e = refl
-or_right false b e = e
-
 pub more_asked : (new past : List Moment) (i unit : ℕ) → is_asked_unit past i unit ≡ true → is_asked_unit (new ++ past) i unit ≡ true
 more_asked [] past i unit e = e
 more_asked (moment ∷ new) past i unit e = or_right (asks_unit moment i unit) _ (more_asked new past i unit e)
-
-or_left : (a b : Bool) → a ≡ true → (a || b) ≡ true
-or_left true b e = refl
-or_left false b e = untrue e
 
 -- a line that asks for a login
 event_asks : (line i unit reconnect : ℕ) (exclusive : Bool) (password : List ℕ) (event : Event) → event ≡ events.Act i (actions.Login unit reconnect exclusive password) → asks_unit (asked line event) i unit ≡ true

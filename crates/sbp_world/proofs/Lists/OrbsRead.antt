@@ -1,8 +1,8 @@
 -- The target reads the management ORB that stands in its place.
-use Rattle.sbp_world.proofs.Words.Std.{arith, ◌≡◌, ◌∙◌, refl, sym, ap, subst, ℕ, zero, ◌+◌, ◌≤◌, List, [], ◌∷◌, ◌++◌, map, Some, append_assoc}
+use Rattle.sbp_world.proofs.Words.Std.{arith, ◌≡◌, ◌∙◌, refl, sym, ap, subst, ℕ, zero, ◌≤◌, List, [], ◌∷◌, ◌++◌, map, Some, append_assoc}
 use Rattle.sbp_world.proofs.Words.Wire.{SerialsCount, Access, Moment, asked, said, terms}
 use Rattle.sbp_world.proofs.Words.Target.{Operation, Disk}
-use Rattle.sbp_world.proofs.Words.Laws.{Underway, access_at, access_in, packet_in, place_bytes, place_held}
+use Rattle.sbp_world.proofs.Words.Laws.{Underway, access_at, access_in, packet_in, place_bytes, place_held, sender_in}
 use Rattle.sbp_world.proofs.Words.World.{history_of, after, beginning, after_all, begun, read_access, more_deliveries, AccessOf, AreAsked, WasAsked, BringPlaces, IsReading, ReadOrbsLaw, OperationsLast}
 use Rattle.mgmt_agent.specs.declared.operation.Phase.{Phase}
 use Rattle.mgmt_agent.specs.declared.operation.Phase.TheVariants as phases
@@ -18,20 +18,25 @@ use Rattle.sbp_world.proofs.Lists.UnderwayRuns.{delivering, underway_law}
 use Rattle.sbp_world.proofs.Common.{delivers}
 
 -- ---- what a packet of an operation asks for, as the terms have it
-pub access_there : (start : List Disk) (past : List Moment) → SerialsCount past → (serial : ℕ) (op : Operation) (w : WasAsked start past serial op) → access_at (terms past) serial ≡ Some w.access
-access_there start past c serial op w =
-    let sent = said (notes.Sent serial w.generation zero w.to w.bytes) in
-    let here = sent ∷ w.before in
-    let counts : SerialsCount (w.later ++ here) = subst SerialsCount (sym w.is) c in
-    let first : SerialsCount here = serials_from w.later here counts in
-    let few : serial ≤ (terms here).count = below w.before serial w.generation w.to w.bytes first.0 in
-    let kept = (remains w.later here counts).sent serial few in
-    ap (λ ms. access_at (terms ms) serial) (sym w.is)
-    ∙ (ap (λ so. access_in (packet_in so)) (kept ∙ sent_there w.before serial w.generation zero w.to w.bytes)
-    ∙ w.spelled)
-  where
-    below : (before : List Moment) (serial generation to : ℕ) (bytes : List ℕ) → serial ≡ (terms before).count + 1 → serial ≤ (terms (said (notes.Sent serial generation zero to bytes) ∷ before)).count
-    below before serial generation to bytes e = let k = count_now before serial generation zero to bytes in omega (arith, e, k)
+module _ (start : List Disk) (past : List Moment) (c : SerialsCount past) (serial : ℕ) (op : Operation) (w : WasAsked start past serial op) where
+  abbrev here : List Moment
+  here = said (notes.Sent serial w.generation zero w.to w.bytes) ∷ w.before
+
+  counts : SerialsCount (w.later ++ here)
+  counts = subst SerialsCount (sym w.is) c
+
+  sent_same : (terms past).sent serial ≡ (terms here).sent serial
+  sent_same =
+      let first : SerialsCount here = serials_from w.later here counts in
+      let k = count_now w.before serial w.generation zero w.to w.bytes in
+      let number = first.0 in
+      ap (λ ms. (terms ms).sent serial) (sym w.is) ∙ (remains w.later here counts).sent serial (omega (arith, number, k))
+
+  pub access_there : access_at (terms past) serial ≡ Some w.access
+  access_there = ap (λ so. access_in (packet_in so)) (sent_same ∙ sent_there w.before serial w.generation zero w.to w.bytes) ∙ w.spelled
+
+  pub sender_there : sender_in ((terms past).sent serial) ≡ Some 0
+  sender_there = ap sender_in (sent_same ∙ sent_there w.before serial w.generation zero w.to w.bytes)
 
 pub in_phase : (phase other : Phase) (op : Operation) (access : Access) → phase ≡ other → AccessOf phase op access → AccessOf other op access
 in_phase phase other op access e a = subst (λ p. AccessOf p op access) e a

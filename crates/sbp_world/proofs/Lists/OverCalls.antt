@@ -1,7 +1,6 @@
 -- In a call of the target no end is told, and each agent stays in its phase or is cut; or the agent of one place acts: one that writes a status block, or is dead, ends none and stays so, or the write of its
 -- status block is answered with rcode 0; and where an end is told the agent writes the status block then, as it comes by a reply to its main transaction, or is dead.
-use Rattle.std.proofs.Common.{◌≡◌, ◌∙◌, refl, sym, ap, subst, inl, ◌⊎◌, ◌<◌, ℕ, Bool, true, false, cond, List, [], ◌∷◌, ◌++◌, length, Option, Some, None, Result, Ok, Err}
-use Rattle.std.proofs.lemmas.Bool.{false≢true}
+use Rattle.std.proofs.Common.{◌≡◌, ◌∙◌, refl, sym, ap, subst, inl, ◌⊎◌, ◌<◌, ℕ, Bool, true, false, cond, List, [], length, Option, Some, None, Result, Ok, Err}
 use Rattle.async_packet.specs.Labels.{LabelParts}
 use Rattle.async_packet.specs.Packet.{Packet, header_in}
 use Rattle.label_table.specs.Layer.{Finding, Layer, expiring_step, judging_step, of_again, of_generation, of_grammar, of_label, of_request, of_response}
@@ -31,7 +30,7 @@ use Rattle.sbp_target.specs.Agents.{cut}
 use Rattle.sbp_target.specs.Desks.{which_in}
 use Rattle.sbp_target.specs.Nodes.{Scene, desk_at, login_at, scene}
 use Rattle.sbp_target.specs.Receiving.{answer_in, concluded, expire_agent, expired, expired_by, expired_in, judged_scene, received, received_as, settled, timed_out}
-use Rattle.sbp_target.specs.Replies.{Whole, replied_by, replied_to, served_login, whole, plain_in}
+use Rattle.sbp_target.specs.Replies.{Whole, replied_by, replied_to, served_login, whole}
 use Rattle.sbp_target.specs.Serving.{accessed_by, answered, enabled, is_barred, point, request_step, serve, served_as}
 use Rattle.sbp_world.specs.Worlds.{WorldState}
 use Rattle.sbp_target.proofs.Histories.Calling.{Good}
@@ -40,15 +39,12 @@ use Rattle.command_agent.specs.Machine.{Machine}
 use Rattle.sbp_target.specs.Nodes.{with_desk}
 use Rattle.sbp_target.specs.Serving.{pointed_by, rcode_of}
 use Rattle.sbp_world.proofs.Lists.BusyCuts.{AreBeside, Cutting, First, WasCut, answers, cuts_one, desk_more, manages, same_desks, sees, starts, ticks}
-use Rattle.sbp_target.specs.Serving.{ring}
 use Rattle.sbp_target.specs.Receiving.{seen, ticked}
 use Rattle.sbp_world.proofs.Lists.Full.{IsClosed}
 use Rattle.sbp_world.proofs.Lists.Pointers.{refused}
 use Rattle.rbc_disk.specs.Disk.{Disk}
 use Rattle.label_table.specs.declared.reply.Stale.{Stale}
 use Rattle.sbp_target.specs.Calls.{Call, alone, lets_expire, receives, sees as sight, sets_key, ticks as second}
-use Rattle.sbp_journal.specs.declared.side.Side.{Side}
-use Rattle.sbp_journal.specs.declared.side.Side.TheVariants as sides
 use Rattle.sbp_target.specs.Desks.{pointed_desk}
 use Rattle.sbp_world.proofs.Lists.EndingFollows.{ends_in}
 use Rattle.sbp_world.proofs.Lists.EndingCalls.{beside_ends}

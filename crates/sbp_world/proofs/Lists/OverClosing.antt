@@ -1,11 +1,11 @@
 -- In a turn in which a reply to the main transaction of an agent comes, of an initiator that injected no packets: the request of it was closed by this packet; so its transactions are new from then on, or reads; and where it was
 -- the write of a status block, and was answered with rcode 0, this was answered so.
-use Rattle.sbp_world.proofs.Words.Std.{arith, ◌≡◌, ◌∙◌, refl, sym, ap, subst, inl, inr, ◌⊎◌, ◌<◌, ◌≤◌, ◌+◌, ◌&&◌, not, ℕ, suc, Bool, true, false, cond, List, [], ◌∷◌, ◌++◌, length, is_some, Option, Some, None, false≢true, same_Some, none-some}
-use Rattle.sbp_world.proofs.Words.Wire.{SerialsCount, as_sending, Access, Event, Moment, asked, said, Packet, header_in, judging_step, of_response, found_sent, Part, part_of, request, response, Sending, Terms, opened, terms, Holder, holder_at, or_nobody, Stored}
-use Rattle.sbp_world.proofs.Words.Target.{Ahead, Main, Machine, Disk, NodeState, ReadAhead, is_live, login_at, which_in, desk_at, answer_in, ahead_ask, Knows, Progress, Phase}
-use Rattle.sbp_world.proofs.Words.Initiator.{Answer, Done, Expired, NoLabel, Payload, Refused, Ask, FailCause, Nothing, OrbPointer, At, Null, StatusKind, slot_of, start, write_failure}
-use Rattle.sbp_world.proofs.Words.Laws.{injectors, is_cut, IsOpen, ClosesOne, OnceAt, OnceLaw, WasServed, is_between, is_done, is_wild, is_write_in, access_at, access_in, answered_as, answered_at, answered_in, closed_by, packet_in, receiver_in, sender_in, for_agent, got_by, purpose_of, replied_to, Target, agent_at, over, slot_at, target_at, present_list, status_due, status_packet, ended_status, ends, lists, EachMoment}
-use Rattle.sbp_world.proofs.Words.World.{AllSentSo, AreHeldAt, AreOpened, HasAsked, IsAccessFor, IsCalm, IsOpened, IsToHost, SentSo, WasClosed, WorldState, holder, initiator_in, is_open_at, machine_at, orbs, IsOpenAt, OpenLists, has_list}
+use Rattle.sbp_world.proofs.Words.Std.{arith, ◌≡◌, ◌∙◌, refl, sym, ap, subst, inl, inr, ◌⊎◌, ◌<◌, ◌≤◌, ◌+◌, ◌&&◌, not, ℕ, suc, Bool, true, false, List, [], ◌∷◌, ◌++◌, length, is_some, Option, Some, None, false≢true, same_Some, none-some}
+use Rattle.sbp_world.proofs.Words.Wire.{SerialsCount, as_sending, Access, Event, Moment, asked, said, header_in, judging_step, of_response, found_sent, Part, part_of, request, response, Sending, Terms, opened, terms, Holder, holder_at, or_nobody, Stored}
+use Rattle.sbp_world.proofs.Words.Target.{Main, Machine, Disk, NodeState, ReadAhead, which_in, desk_at, answer_in, ahead_ask, Knows, Phase}
+use Rattle.sbp_world.proofs.Words.Initiator.{Answer, Done, Expired, NoLabel, Payload, Refused, OrbPointer, At, Null, StatusKind, start, write_failure}
+use Rattle.sbp_world.proofs.Words.Laws.{is_cut, IsOpen, ClosesOne, OnceAt, WasServed, is_between, is_done, is_wild, is_write_in, access_at, access_in, answered_as, answered_at, answered_in, closed_by, packet_in, for_agent, got_by, purpose_of, replied_to, Target, agent_at, over, slot_at, target_at, present_list, status_packet, ended_status, ends, lists, EachMoment}
+use Rattle.sbp_world.proofs.Words.World.{AreHeldAt, AreOpened, IsAccessFor, IsCalm, IsOpened, IsToHost, SentSo, WorldState, initiator_in, is_open_at, machine_at, orbs, IsOpenAt, has_list}
 use Rattle.bus_memory.specs.declared.window.Window.TheVariants as windows
 use Rattle.command_agent.specs.declared.phase.Phase.TheVariants as phases
 use Rattle.command_agent.specs.declared.phase.ReadAhead.TheVariants as aheads
@@ -44,7 +44,7 @@ use Rattle.sbp_world.proofs.Lists.StatusPlaces.{AllPlacedFor}
 use Rattle.sbp_world.proofs.Lists.StatusSteps.{EndsSo}
 use Rattle.sbp_world.proofs.Lists.TurnCalls.{Comes, IsCalled, TurnFrom}
 use Rattle.sbp_world.proofs.Lists.Turns.{Ready}
-use Rattle.sbp_world.proofs.Lists.YoungAgents.{IsYoung, young_over, young_since}
+use Rattle.sbp_world.proofs.Lists.YoungAgents.{young_over, young_since}
 
 -- ---- as a turn begins
 answered_by : (t u : Terms) → u.held ≡ t.held → (part : Part) (sending : Sending) → answered_as part u sending ≡ answered_as part t sending

@@ -1,5 +1,5 @@
 -- An ORB of an initiator that injected no packets has a status from its end on; a list with an end has begun, and one that is present or open then was so before, once it had begun.
-use Rattle.sbp_world.proofs.Words.Std.{arith, ◌≡◌, ◌∙◌, refl, sym, ap, subst, ◌<◌, ◌≤◌, ◌==◌, ℕ, suc, nat_eq, Bool, true, false, cond, List, [], ◌∷◌, ◌++◌, Option, Some, None, nat_tests, false≢true, same_Some, none-some}
+use Rattle.sbp_world.proofs.Words.Std.{arith, ◌≡◌, ◌∙◌, refl, sym, ap, ◌<◌, ◌≤◌, ◌==◌, ℕ, suc, nat_eq, Bool, true, false, cond, List, [], ◌∷◌, ◌++◌, Some, None, nat_tests, false≢true, same_Some, none-some}
 use Rattle.sbp_world.proofs.Words.Wire.{Moment, asked, said}
 use Rattle.sbp_world.proofs.Words.Initiator.{StatusKind}
 use Rattle.sbp_world.proofs.Words.Laws.{present_list, is_cut, IsOpen, ended_status, ends, lists, EachMoment}

@@ -8,7 +8,6 @@ use Rattle.orb_layout.specs.declared.ask.FailCause.{FailCause}
 use Rattle.orb_layout.specs.declared.ask.FailCause.TheVariants as causes
 use Rattle.orb_layout.specs.declared.status.StatusKind.{StatusKind}
 use Rattle.rbc_disk.specs.declared.command.Outcome.{Outcome}
-use Rattle.command_agent.specs.declared.phase.Phase.{Phase}
 use Rattle.command_agent.specs.declared.step.AgentStep.{AgentStep}
 use Rattle.command_agent.specs.declared.step.Which.{Which}
 use Rattle.command_agent.specs.Machine.{Machine}
@@ -28,7 +27,7 @@ use Rattle.sbp_world.proofs.Lists.BusyFollows.{AreOf, IsOf}
 use Rattle.sbp_world.proofs.Lists.EndingFollows.{ends_in, one_ending}
 use Rattle.sbp_world.proofs.Lists.EndingSteps.{is_over, listed}
 use Rattle.sbp_world.proofs.Lists.OverSteps.{AreGoing, lost_going, lost_over, no_more}
-use Rattle.sbp_world.proofs.Lists.SameAgents.{AreSame, announce_alike, follow_alike, noted_same, set_here, set_there}
+use Rattle.sbp_world.proofs.Lists.SameAgents.{AreSame, announce_alike, follow_alike, noted_same, set_here, set_there, noted_outbox}
 
 -- ---- the ends that are told
 joined : (a b c : List StatusKind) → (a ++ b) ++ c ≡ a ++ (b ++ c)
@@ -99,10 +98,6 @@ module _ (q : ℕ) (b : q < 8) (machines : ℕ → Machine) (Was By : Type 0) wh
       let ran = tell_ran q m step.ran o in
       ended_ends step.ended m (tell_dead q step.dead ran) ∙ ap (λ xs. xs ++ listed step.ended) (dead_ends step.dead ran ∙ ran_ends step.ran m o)
 
-  noted_outbox : (step : AgentStep) (s : Scene) → (noted q step s).outbox ≡ tell_step q (desk_at s.node q).agent step s.outbox
-  unfolding noted
-  noted_outbox step s = refl
-
   -- one that is not told yet
   pub record Steps (step : AgentStep) (s : Scene) : Type 0 where
     pub of : AreOf q s.outbox.sides
@@ -114,7 +109,7 @@ module _ (q : ℕ) (b : q < 8) (machines : ℕ → Machine) (Was By : Type 0) wh
   pub noted_acts : (step : AgentStep) (s : Scene) → Steps step s → Acts (noted q step s)
   noted_acts step s m =
       let a = noted_same q b step s m.desks in
-      let e : (noted q step s).outbox.sides ≡ (tell_step q (A s) step s.outbox).sides = ap (λ (o : OutboxState). o.sides) (noted_outbox step s) in
+      let e : (noted q step s).outbox.sides ≡ (tell_step q (A s) step s.outbox).sides = ap (λ (o : OutboxState). o.sides) (noted_outbox q step s) in
       let told : ends_in (noted q step s).outbox.sides ≡ ends_in s.outbox.sides ++ listed step.ended = ap ends_in e ∙ step_ends step (A s) s.outbox in
       record {
         of = subst (AreOf q) (sym e) (step_of step (A s) s.outbox m.of);

@@ -1,11 +1,11 @@
 -- At each place of a run in which no initiator injected packets, or few logins were given, each ORB of the present list of an initiator that injected none ended only as the status block of each one before it was
 -- answered: each turn keeps it, with that each status block of such a list was answered but that of the latest end, while the agent of the list writes it, or is dead.
-use Rattle.sbp_world.proofs.Words.Std.{◌≡◌, ◌∙◌, refl, sym, ap, subst, inl, inr, ◌⊎◌, ◌<◌, ◌==◌, ◌||◌, not, nat_lt, arith, ℕ, suc, true, false, Bool, List, [], ◌∷◌, ◌++◌, map, length, Some, None, nat_tests, false≢true, none-some}
+use Rattle.sbp_world.proofs.Words.Std.{◌≡◌, ◌∙◌, refl, sym, ap, subst, inl, inr, ◌⊎◌, ◌<◌, ◌==◌, ◌||◌, not, nat_lt, arith, ℕ, suc, true, false, Bool, List, [], ◌∷◌, ◌++◌, map, length, Some, None, nat_tests, false≢true}
 use Rattle.sbp_world.proofs.Words.Wire.{SerialsCount, Event, Moment, asked, said, terms}
 use Rattle.sbp_world.proofs.Words.Target.{Disk, Machine, NodeState, alone, desk_at}
 use Rattle.sbp_world.proofs.Words.Initiator.{StatusKind}
-use Rattle.sbp_world.proofs.Words.Laws.{injectors, IsOpen, OnceAt, OnceLaw, present_list, ended_status, ends, lists, EachMoment}
-use Rattle.sbp_world.proofs.Words.World.{AllSentSo, Always, IsCalm, IsOfWire, IsTameOrFew, IsUp, MayStand, OneUpLaw, Run, Scene, SentSo, Under, UnderFrom, WhereTameOrFew, WorldState, handed_out, after, after_all, beginning, begun, history_of, holder, initiator_in, machine_at, moments_behind, more_deliveries}
+use Rattle.sbp_world.proofs.Words.Laws.{injectors, IsOpen, OnceAt, OnceLaw, present_list, ended_status, ends, EachMoment}
+use Rattle.sbp_world.proofs.Words.World.{AllSentSo, Always, IsCalm, IsTameOrFew, IsUp, MayStand, OneUpLaw, Run, Scene, SentSo, UnderFrom, WhereTameOrFew, WorldState, handed_out, after, after_all, beginning, begun, history_of, initiator_in, machine_at, moments_behind, more_deliveries}
 use Rattle.sbp_journal.specs.declared.note.Note.TheVariants as notes
 use Rattle.sbp_bus.specs.Places.{holder_at}
 use Rattle.sbp_world.specs.Lists.OneUp.{AreApart}
@@ -31,7 +31,7 @@ use Rattle.sbp_world.proofs.Lists.OverClosing.{BeginsSo, begins_so, fresh_then, 
 use Rattle.sbp_world.proofs.Lists.OverTies.{answered_on}
 use Rattle.sbp_world.proofs.Lists.OverTurned.{AreBehindOnes, AreDone, BehindAt, IsDone, IsFresh, IsOverFor, IsSince, since_on, turned}
 use Rattle.sbp_world.proofs.Lists.Passing.{PassLaw}
-use Rattle.sbp_world.proofs.Lists.PlaceOwners.{Owns, walk_owns}
+use Rattle.sbp_world.proofs.Lists.PlaceOwners.{walk_owns}
 use Rattle.sbp_world.proofs.Lists.Rises.{Rises}
 use Rattle.sbp_world.proofs.Lists.StatusChecks.{ended_told}
 use Rattle.sbp_world.proofs.Lists.StatusKnown.{each_from}
@@ -69,7 +69,7 @@ record Facts (past : List Moment) (w : WorldState) : Type 0 where
   joined : (i : ℕ) → i < length w.initiators → IsJoined past i
 
 -- of the initiators of the world
-abbrev beyond : (ℕ → Bool) → ℕ → ℕ → Bool
+abbrev pub beyond : (ℕ → Bool) → ℕ → ℕ → Bool
 beyond wild count i = wild i || not (nat_lt i count)
 
 beyond_mild : (wild : ℕ → Bool) (count i : ℕ) → beyond wild count i ≡ false → (wild i ≡ false) × (i < count)
@@ -331,16 +331,28 @@ module _ (short : ShortLaw) (one : OneUpLaw) where
     each_behind [] h = tt
     each_behind (m ∷ past) h = (one_behind m past h.0, each_behind past h.1)
 
+  everywhere : UnderFrom (λ start. WhereTameOrFew (λ past w. P start (injectors past) past w))
+  everywhere = record {
+    after_lines = λ line run r has small size so_far beside. from_after IsTameOrFew tame_or_few_before Facts (λ start. Kit) P facts kits walk first line run r has small size so_far beside;
+    between = λ line run r has small size next most told m so_far beside.
+        from_between IsTameOrFew tame_or_few_before Facts (λ start. Kit) P facts kits walk first line run r has small size next (more_deliveries most) (more_than_one most) told m so_far beside;
+  }
+
+  -- each status block of a present list was answered, but that of the latest end
+  pub done_law : UnderFrom (λ start. WhereTameOrFew (λ past w. AreDone start (beyond (injectors past) (length w.initiators)) past w))
+  done_law = record {
+    after_lines = λ line run r has small size so_far beside. (everywhere.after_lines line run r has small size so_far beside).0;
+    between = λ line run r has small size next most told m so_far beside. (everywhere.between line run r has small size next most told m so_far beside).0;
+  }
+
   pub answered_law : AnsweredLaw
   answered_law = record {
     after_lines = λ line run r has small size so_far beside i b calm.
         let past = history_of line run in
         let w = (after (beginning run) run.entries).world in
-        each_behind (beyond (injectors past) (length w.initiators)) i (mild_beyond (injectors past) (length w.initiators) i calm b) past
-        (from_after IsTameOrFew tame_or_few_before Facts (λ start. Kit) P facts kits walk first line run r has small size so_far beside).1;
+        each_behind (beyond (injectors past) (length w.initiators)) i (mild_beyond (injectors past) (length w.initiators) i calm b) past (everywhere.after_lines line run r has small size so_far beside).1;
     between = λ line run r has small size next most told m so_far beside i b calm.
         let w = (after_all told (begun (after (beginning run) run.entries))).world in
         let now = map said w.fresh ++ asked next (more_deliveries most) ∷ history_of line run in
-        each_behind (beyond (injectors now) (length w.initiators)) i (mild_beyond (injectors now) (length w.initiators) i calm b) now
-        (from_between IsTameOrFew tame_or_few_before Facts (λ start. Kit) P facts kits walk first line run r has small size next (more_deliveries most) (more_than_one most) told m so_far beside).1;
+        each_behind (beyond (injectors now) (length w.initiators)) i (mild_beyond (injectors now) (length w.initiators) i calm b) now (everywhere.between line run r has small size next most told m so_far beside).1;
   }

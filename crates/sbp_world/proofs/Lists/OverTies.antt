@@ -1,9 +1,9 @@
 -- The packet of a status block, in a history: where it was sent since the turn began in which its ORB ended, it is the packet that this end sent; and a status that was answered is so behind more moments.
-use Rattle.sbp_world.proofs.Words.Std.{arith, ◌≡◌, ◌∙◌, refl, sym, ap, subst, ◌<◌, ◌≤◌, ◌+◌, ◌==◌, ◌&&◌, ℕ, zero, suc, nat_eq, Bool, true, false, cond, List, [], ◌∷◌, ◌++◌, Option, Some, None, nat_tests, false≢true, same_Some, none-some}
+use Rattle.sbp_world.proofs.Words.Std.{arith, ◌≡◌, ◌∙◌, refl, sym, ap, subst, ◌<◌, ◌≤◌, ◌+◌, ◌&&◌, ℕ, zero, suc, Bool, true, false, cond, List, [], ◌∷◌, ◌++◌, Option, Some, None, same_Some, none-some}
 use Rattle.sbp_world.proofs.Words.Wire.{SerialsCount, Moment, asked, said, Sending, terms}
 use Rattle.sbp_world.proofs.Words.Initiator.{StatusBlock, StatusKind}
 use Rattle.sbp_world.proofs.Words.Laws.{EndedOrb, access_in_bytes, first_of, is_due, is_write_in, orb, status_due, status_packet, ends, lists, EachMoment}
-use Rattle.sbp_world.proofs.Words.World.{IsStatusOf, IsStatusWrite, IsToHost, SentSo, WasClosed}
+use Rattle.sbp_world.proofs.Words.World.{IsStatusOf, IsStatusWrite, IsToHost, SentSo}
 use Rattle.sbp_journal.specs.declared.note.Note.TheVariants as notes
 use Rattle.sbp_world.proofs.Hosts.Remaining.{remains}
 use Rattle.sbp_world.proofs.Hosts.SentMoments.{WasSent, count_now, sent_below, sent_moment, serials_from}

@@ -1,22 +1,20 @@
 -- In a turn of a run an ORB ends only where the status block of the one before it was answered, in the present list of an initiator that injected no packets: behind the turn each status block of such a list was
 -- answered but that of the latest end, while the agent of the list writes it, or is dead; where it was so before.
-use Rattle.std.proofs.Common.{arith, ◌≡◌, ◌∙◌, refl, sym, ap, subst, inl, inr, ◌⊎◌, ◌<◌, ◌≤◌, ◌+◌, not, ℕ, suc, nat_eq, nat_lt, Bool, true, false, cond, List, [], ◌∷◌, ◌++◌, length, Option, Some, None}
+use Rattle.std.proofs.Common.{arith, ◌≡◌, ◌∙◌, refl, sym, ap, subst, inl, inr, ◌⊎◌, ◌<◌, ◌≤◌, ◌+◌, ℕ, suc, nat_eq, nat_lt, Bool, true, false, List, [], ◌∷◌, ◌++◌, length, Some, None}
 use Rattle.std.proofs.lemmas.Bool.Decides.{nat_tests}
 use Rattle.std.proofs.lemmas.Bool.{false≢true}
-use Rattle.std.proofs.lemmas.Option.{same_Some}
 use Rattle.orb_layout.specs.declared.status.StatusKind.{StatusKind}
 use Rattle.orb_layout.specs.StatusBlocks.{status_bytes}
-use Rattle.command_agent.specs.declared.phase.Phase.{Phase}
 use Rattle.command_agent.specs.declared.phase.Phase.TheVariants as phases
-use Rattle.command_agent.specs.Machine.{Machine, has_present, state_in}
-use Rattle.command_agent.specs.Steps.{block_of, is_reset, src_of}
+use Rattle.command_agent.specs.Machine.{Machine, has_present}
+use Rattle.command_agent.specs.Steps.{src_of}
 use Rattle.orb_layout.specs.declared.command.CommandOrb.{CommandOrb}
 use Rattle.bus_transactions.specs.Packets.{SerialsCount}
 use Rattle.rbc_disk.specs.Disk.{Disk}
 use Rattle.sbp_bus.specs.Places.{holder_at}
 use Rattle.sbp_bus.specs.declared.places.Holder.{Holder}
 use Rattle.sbp_journal.specs.Addresses.{Access}
-use Rattle.sbp_journal.specs.Run.{Moment, asked, said}
+use Rattle.sbp_journal.specs.Run.{Moment, said}
 use Rattle.sbp_journal.specs.Wire.{terms}
 use Rattle.sbp_journal.specs.declared.note.Note.{Note}
 use Rattle.sbp_journal.specs.declared.note.Note.TheVariants as notes
@@ -45,15 +43,15 @@ use Rattle.sbp_world.proofs.Lists.Adds.{Stays, all_stay}
 use Rattle.sbp_world.proofs.Lists.BusyCuts.{AreBeside, WasCut}
 use Rattle.sbp_world.proofs.Lists.BusyTold.{cut_told}
 use Rattle.sbp_world.proofs.Lists.EndingFollows.{ends_in}
-use Rattle.sbp_world.proofs.Lists.EndingSteps.{EndsIn, is_over}
-use Rattle.sbp_world.proofs.Lists.Extends.{all_told, handed_extends}
+use Rattle.sbp_world.proofs.Lists.EndingSteps.{EndsIn, is_over, over_up}
+use Rattle.sbp_world.proofs.Lists.Extends.{handed_extends}
 use Rattle.sbp_world.proofs.Lists.OpenWorlds.{hist_on}
-use Rattle.sbp_world.proofs.Lists.OverCalls.{Called, CalledBy, ComesMain, GoesOn, acts, call_called, rests}
+use Rattle.sbp_world.proofs.Lists.OverCalls.{CalledBy, ComesMain, GoesOn, acts, call_called, rests}
 use Rattle.sbp_world.proofs.Lists.OverEnds.{begun, ended_less, has_status, open_back, present_back}
 use Rattle.sbp_world.proofs.Lists.OverFollows.{Acts}
 use Rattle.sbp_world.proofs.Lists.OverSteps.{AreGoing, IsSameBlock, Keeps, same_self}
 use Rattle.sbp_world.proofs.Lists.OverTells.{IsAmong, IsMore, ends_told, status_told}
-use Rattle.sbp_world.proofs.Lists.OverTies.{IsBehind, answered_on}
+use Rattle.sbp_world.proofs.Lists.OverTies.{answered_on}
 use Rattle.sbp_world.proofs.Lists.Passing.{PassLaw}
 use Rattle.sbp_world.proofs.Lists.PlaceOwners.{Owns}
 use Rattle.sbp_world.proofs.Lists.StatusKnown.{each_from}
@@ -116,18 +114,6 @@ BehindAt wild moment past = Unit {0}
 
 abbrev pub AreBehindOnes : (ℕ → Bool) → List Moment → Type 0
 AreBehindOnes wild ms = EachMoment (BehindAt wild) ms
-
-over_up_in : (phase : Phase) → is_over phase ≡ true → not (is_reset (state_in phase)) ≡ true
-over_up_in phases.WritingStatus e = refl
-over_up_in phases.WritingLastStatus e = refl
-over_up_in phases.Dead e = refl
-over_up_in phases.Reset e = absurd (false≢true e)
-over_up_in phases.Fetching e = absurd (false≢true e)
-over_up_in phases.ReadingTable e = absurd (false≢true e)
-over_up_in (phases.ReadingData wanted) e = absurd (false≢true e)
-over_up_in phases.Answering e = absurd (false≢true e)
-over_up_in phases.ReadingNext e = absurd (false≢true e)
-over_up_in phases.Suspended e = absurd (false≢true e)
 
 -- ---- behind more moments
 pub since_on : (start : List Disk) (later ms : List Moment) (p i n k : ℕ) → SerialsCount (later ++ ms) → IsSince start ms p i n k → IsSince start (later ++ ms) p i n k
@@ -322,7 +308,7 @@ module _ (start : List Disk) (wild : ℕ → Bool) (past : List Moment) (w v : W
 
     -- an agent that is up then is of the same initiator
     owner : (p : ℕ) → p < 8 → is_over (machine_at v p).phase ≡ true → initiator_in v p ≡ initiator_in w p
-    owner p b over = owns p b (over_up_in (machine_at v p).phase over)
+    owner p b over = owns p b (over_up (machine_at v p).phase over)
 
     record On : Type 0 where
       later : List Moment
@@ -364,7 +350,7 @@ module _ (start : List Disk) (wild : ℕ → Bool) (past : List Moment) (w v : W
 
       module _ (i n k : ℕ) (own : wild i ≡ false) (opened : IsOpen now i n) (latest : suc n ≡ lists before i) (e : suc k ≡ ends before i n) (b : IsOverFor start before w i n k) where
         up : IsUp w i b.place
-        up = record { up = over_up_in (machine_at w b.place).phase b.over; own = b.initiator_is }
+        up = record { up = over_up (machine_at w b.place).phase b.over; own = b.initiator_is }
 
         cut_not : WasCut b.place told_sides → ⊥
         cut_not cut =
@@ -477,7 +463,7 @@ module _ (start : List Disk) (wild : ℕ → Bool) (past : List Moment) (w v : W
         over_q = ap (λ (m : Machine). is_over m.phase) (machine_now q) ∙ over
 
         up_q : (i : ℕ) → i ≡ j → IsUp v i q
-        up_q i e = record { up = over_up_in (machine_at v q).phase over_q; own = owner q b over_q ∙ (sym j_is ∙ sym e) }
+        up_q i e = record { up = over_up (machine_at v q).phase over_q; own = owner q b over_q ∙ (sym j_is ∙ sym e) }
 
         most : (i n : ℕ) → IsMore i j (ends before i n) (ends now i n) 1
         most i n = subst (λ y. IsMore i j (ends before i n) (ends now i n) (length y)) one (more i n)
@@ -491,7 +477,7 @@ module _ (start : List Disk) (wild : ℕ → Bool) (past : List Moment) (w v : W
             by_place false f =
                 let g = apart_from p.place f in
                 let over_p = ap (λ (m : Machine). is_over m.phase) (other_same p.place g) ∙ p.over in
-                let up_p : IsUp v i p.place = record { up = over_up_in (machine_at v p.place).phase over_p; own = owner p.place p.small over_p ∙ p.initiator_is } in
+                let up_p : IsUp v i p.place = record { up = over_up (machine_at v p.place).phase over_p; own = owner p.place p.small over_p ∙ p.initiator_is } in
                 absurd (g (sym (apart i p.place q own p.small b up_p (up_q i from))))
 
         -- that of this end is written now

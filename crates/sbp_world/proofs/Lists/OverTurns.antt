@@ -37,7 +37,7 @@ use Rattle.sbp_world.proofs.Lists.OverFollows.{Acts, Steps, alike, announce_from
 use Rattle.sbp_world.proofs.Lists.EndingSteps.{is_over, listed, reply_ends}
 use Rattle.sbp_world.proofs.Lists.OverSteps.{AreGoing, Keeps, Rests, TurnsOn, bell_keeps, ends_main, first_going, first_was, lost_going, lost_over, point_keeps, reply_keeps, reply_on, same_self}
 use Rattle.sbp_world.proofs.Lists.Pointers.{not_taken}
-use Rattle.sbp_world.proofs.Lists.SameAgents.{AreSame, are_self, set_here, set_there}
+use Rattle.sbp_world.proofs.Lists.SameAgents.{set_here, set_there, changed_same}
 use Rattle.sbp_world.proofs.Lists.StatusSteps.{replied_leaves}
 
 -- ---- a doorbell
@@ -86,10 +86,6 @@ module _ (w : WorldState) (g : Good w.target) (layer : Layer Purpose) where
 
     abbrev pub Now : Scene → Type 0
     Now s = Acts q b M Was By s
-
-    changed_same : (x : Bool) (unit place : ℕ) (one : NodeState) → AreSame one (changed_by x unit place one)
-    changed_same true unit place one = record { desks = refl; agents = λ p. refl }
-    changed_same false unit place one = are_self one
 
     announced_acts : (x : Bool) (unit : ℕ) (s : Scene) → Now s → Now (announced_by x unit q s)
     announced_acts true unit s m = announce_from_acts q b M Was By 8 0 unit q (omega arith) s m

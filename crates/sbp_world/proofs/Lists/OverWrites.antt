@@ -1,10 +1,10 @@
 -- At a place of a run the request that an agent waits for, while it writes the status block of an ORB, is a write of this block to a FIFO of its initiator, which injected no packets: the block names the slot of an ORB.
-use Rattle.sbp_world.proofs.Words.Std.{arith, ◌≡◌, ◌∙◌, refl, sym, ap, subst, ◌<◌, ◌^◌, ◌&&◌, ℕ, suc, Bool, true, false, cond, List, length, Option, Some, None, Result, Ok, false≢true, same_Some, none-some}
+use Rattle.sbp_world.proofs.Words.Std.{arith, ◌≡◌, ◌∙◌, refl, sym, ap, subst, ◌<◌, ◌^◌, ◌&&◌, ℕ, suc, Bool, true, false, List, length, Option, Some, None, Ok, false≢true, same_Some, none-some}
 use Rattle.sbp_world.proofs.Words.Wire.{Access, Moment, Sending, Terms, terms}
-use Rattle.sbp_world.proofs.Words.Target.{Disk, Knows, Login, Machine, Progress, Table, main_ask, main_under, place_at, writes_status, desk_at, is_live, login_at, Phase}
-use Rattle.sbp_world.proofs.Words.Initiator.{Ask, OrbPointer, At, Null, StatusBlock, StatusKind, IsKind, is_management, read_block, slot_of, start, status_bytes}
-use Rattle.sbp_world.proofs.Words.Laws.{access_at, access_in, access_in_bytes, fifo_in, packet_in, receiver_in, sender_in, Agent, Target, agent_at, over, slot_at, target_at, term_initiator, term_login}
-use Rattle.sbp_world.proofs.Words.World.{HasAsked, IsAccessFor, IsOf, AreOwnOf, IsFifo, IsLoginFifo, IsOpened, IsStatusWrite, IsToHost, Office, WorldState, answers, holder, initiator_in, machine_at, orbs, write_access}
+use Rattle.sbp_world.proofs.Words.Target.{Disk, Machine, Table, main_ask, main_under, place_at, writes_status, desk_at, Phase}
+use Rattle.sbp_world.proofs.Words.Initiator.{OrbPointer, At, Null, StatusBlock, StatusKind, IsKind, is_management, read_block, slot_of, start, status_bytes}
+use Rattle.sbp_world.proofs.Words.Laws.{access_at, access_in, fifo_in, packet_in, receiver_in, sender_in, Agent, Target, agent_at, over, slot_at, target_at, term_initiator, term_login}
+use Rattle.sbp_world.proofs.Words.World.{HasAsked, IsAccessFor, IsOf, AreOwnOf, IsFifo, IsLoginFifo, IsOpened, IsStatusWrite, IsToHost, Office, WorldState, answers, initiator_in, machine_at}
 use Rattle.bus_memory.specs.declared.window.Window.TheVariants as windows
 use Rattle.bus_memory.proofs.Found.{slot_of_law}
 use Rattle.command_agent.specs.declared.phase.Phase.TheVariants as phases

@@ -1,5 +1,6 @@
 -- As each packet is got in a run in which no initiator injected packets, or few logins were given, an answer to an agent brings of an initiator that injected none what the agent of its own place asked for, or
 -- what begins elsewhere.
+use Rattle.sbp_world.proofs.Common.{same_node}
 use Rattle.sbp_world.proofs.Words.Std.{◌⊎◌, ◌≡◌, ◌∙◌, refl, sym, ap, subst, ◌<◌, ℕ, suc, Bool, false, cond, List, [], ◌∷◌, ◌++◌, map, Option, Some, None}
 use Rattle.sbp_world.proofs.Words.Wire.{Moment, asked, said, Part, Sending, Transaction, between, part_of, request, response, Held, Terms, opened, terms, Event, Note}
 use Rattle.sbp_world.proofs.Words.Target.{Disk}
@@ -28,14 +29,11 @@ use Rattle.sbp_world.proofs.Lists.StillTurns.{Ground, site_at}
 
 -- ---- at a place
 module _ (units ready : ℕ) (has : 0 < units) (start : List Disk) {past : List Moment} {lines : ℕ} (w : WorldState) (h : Holding units ready start past lines w) (q : Ground start (hist past w) w) (beside : IsTameOrFew (hist past w)) where
-  same_initiator : (a b : ℕ) → Some (suc a) ≡ Some (suc b) → a ≡ b
-  same_initiator a b e = cc
-
   own_here : (serial : ℕ) → AreOwnAsGot (injectors (hist past w)) start (hist past w) serial
   own_here serial place b side mine i calm waits to r other slot which closed purpose =
       let site = site_at start past w q in
       let x = waiting units ready has start w h site place b side mine waits in
-      let same : initiator_in w place ≡ i = same_initiator (initiator_in w place) i (sym x.to ∙ to) in
+      let same : initiator_in w place ≡ i = same_node (initiator_in w place) i (sym x.to ∙ to) in
       subst (λ j. IsOwnOrOther start (hist past w) j place slot serial) same
       (are_own_gots units ready has start w h site (q.lists beside) q.along place b x.is_open (subst (IsCalm (hist past w)) (sym same) calm) serial r other slot which closed purpose)
 

@@ -1,5 +1,5 @@
 -- Each management ORB that stands in a place of an initiator names a FIFO of the initiator's, and where it asks for a login, that of a login.
-use Rattle.sbp_world.proofs.Words.Std.{arith, ◌≡◌, ◌∙◌, refl, sym, ap, subst, ℕ, suc, ◌+◌, ◌*◌, ◌%◌, ◌^◌, ◌<◌, ◌≤◌, ◌==◌, ◌&&◌, Bool, true, false, cond, List, [], ◌∷◌, Option, Some, None, nat_tests}
+use Rattle.sbp_world.proofs.Words.Std.{arith, ◌≡◌, ◌∙◌, refl, sym, ap, subst, ℕ, suc, ◌+◌, ◌*◌, ◌%◌, ◌^◌, ◌<◌, ◌==◌, ◌&&◌, Bool, true, false, cond, List, [], ◌∷◌, Option, Some, None, nat_tests}
 use Rattle.sbp_world.proofs.Words.Wire.{Moment, asked, said, Action, Event, Operation}
 use Rattle.sbp_world.proofs.Words.Target.{function_of}
 use Rattle.sbp_world.proofs.Words.Initiator.{ManagementOrb, management_bytes, management_orb}
@@ -11,7 +11,7 @@ use Rattle.sbp_journal.specs.declared.event.Event.TheVariants as events
 use Rattle.sbp_journal.specs.declared.note.Note.TheVariants as notes
 use Rattle.sbp_world.proofs.Lists.OrbsShort.{event_short, login_small, orb_short}
 use Rattle.sbp_world.proofs.Lists.OwnCounts.{FewAt}
-use Rattle.sbp_world.proofs.Common.{untrue}
+use Rattle.sbp_world.proofs.Common.{untrue, and_first}
 
 -- ---- as it is read back
 pub fifo_back : (o : ManagementOrb) → o.fifo < 2 ^ 48 → (management_orb (management_bytes o)).fifo ≡ o.fifo
@@ -67,10 +67,6 @@ named _ past i host place few small m = untrue m
 abbrev pub IfGood : Option ManagementOrb → Type 0
 IfGood None = Unit {0}
 IfGood (Some one) = IsGoodOrb (management_orb (management_bytes one))
-
-pub and_first : (a b : Bool) → (a && b) ≡ true → a ≡ true
-and_first true b e = refl
-and_first false b e = e
 
 pub own_manages : (i j : ℕ) (operation : Option Operation) → is_own i j operation ≡ true → (j ≡ i) × (manages operation ≡ true)
 own_manages i j (Some operation) e = (let x = and_first (i == j) _ e in (grind (arith, nat_tests)), second (i == j) _ e)

@@ -1,4 +1,5 @@
 -- As each packet is got in a run in which no initiator injected packets, or few logins were given, the agents wait for page tables and data of an initiator that injected none for the ORB at the head of its own list alone.
+use Rattle.sbp_world.proofs.Common.{same_node}
 use Rattle.sbp_world.proofs.Words.Std.{◌≡◌, ◌∙◌, sym, ap, subst, ◌<◌, ℕ, List, [], ◌∷◌, ◌++◌, map, Option, Some}
 use Rattle.sbp_world.proofs.Words.Wire.{Moment, asked, said, Sending, terms, Event, Note}
 use Rattle.sbp_world.proofs.Words.Target.{Disk}
@@ -20,7 +21,6 @@ use Rattle.sbp_world.proofs.Lists.Quiet.{AllQuiet, IsQuiet}
 use Rattle.sbp_world.proofs.Lists.Sites.{waiting}
 use Rattle.sbp_world.proofs.Lists.StillRuns.{ground_everywhere}
 use Rattle.sbp_world.proofs.Lists.StillTurns.{Ground, site_at}
-use Rattle.sbp_world.proofs.Lists.MainSlots.{same_initiator}
 
 -- ---- at a place
 module _ (units ready : ℕ) (has : 0 < units) (start : List Disk) {past : List Moment} {lines : ℕ} (w : WorldState) (h : Holding units ready start past lines w) (q : Ground start (hist past w) w) (beside : IsTameOrFew (hist past w)) where
@@ -28,7 +28,7 @@ module _ (units ready : ℕ) (has : 0 < units) (start : List Disk) {past : List 
   reads_here place b side mine i waits to calm =
       let site = site_at start past w q in
       let x = waiting units ready has start w h site place b side mine waits in
-      let same : initiator_in w place ≡ i = same_initiator (initiator_in w place) i (sym x.to ∙ to) in
+      let same : initiator_in w place ≡ i = same_node (initiator_in w place) i (sym x.to ∙ to) in
       let quiet = subst (IsCalm (hist past w)) (sym same) calm in
       let o = (q.lists beside).listed place b x.is_open quiet in
       subst (λ j. ReadsItsOwn start (hist past w) place j) same

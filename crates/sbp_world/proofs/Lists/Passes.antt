@@ -4,7 +4,7 @@ use Rattle.sbp_world.proofs.Words.Wire.{Sent, found_sent, Request, end_note, jud
 use Rattle.sbp_world.proofs.Words.Target.{Told, received}
 use Rattle.sbp_world.proofs.Words.Initiator.{new_state, receive_step}
 use Rattle.sbp_world.proofs.Words.Laws.{linked, appends}
-use Rattle.sbp_world.proofs.Words.World.{Arrival, arrived, at_target, delivered, delivered_by, initiator_received, initiators_received, marked, received_by, received_step, target_received, whole_of, with_initiators, handed_out, MayHappen, acted, happens, reset_line, see_line, MayIf, delivered_if, expires, initiator_expires, inject_line, is_in_flight, lose_line, may_repeat, refused, target_expired, target_left, timed_out, timeout_line, timeout_of, after_all, delivered_at, delivered_next, is_settled, lowest, Scene, WorldState, begun, initiator_at, with_note, with_target, without_notes, IsLine, AreRows, Lasts, Unrun, UnrunLaw, IsCalm, Needs, machine_at}
+use Rattle.sbp_world.proofs.Words.World.{Arrival, arrived, at_target, delivered, delivered_by, initiator_received, initiators_received, marked, received_by, received_step, target_received, whole_of, with_initiators, handed_out, MayHappen, acted, happens, reset_line, see_line, MayIf, delivered_if, expires, initiator_expires, inject_line, is_in_flight, lose_line, may_repeat, refused, target_expired, timed_out, timeout_line, timeout_of, after_all, delivered_at, delivered_next, is_settled, lowest, Scene, WorldState, begun, initiator_at, with_note, with_target, without_notes, IsLine, AreRows, Lasts, Unrun, UnrunLaw, IsCalm, Needs, machine_at}
 use Rattle.sbp_journal.specs.declared.event.Event.TheVariants as events
 use Rattle.sbp_world.specs.Packets as packets
 use Rattle.sbp_world.proofs.Wire.Comes.{own_inside, own_outside, received_is, to_own, to_zero}

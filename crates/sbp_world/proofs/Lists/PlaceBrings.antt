@@ -9,18 +9,19 @@ use Rattle.bus_memory.specs.declared.window.Window.TheVariants as windows
 use Rattle.sbp_journal.specs.declared.note.Note.TheVariants as notes
 use Rattle.sbp_world.proofs.Hosts.Between.{OfWire, between, of_wire, of_wire_there}
 use Rattle.sbp_world.proofs.Hosts.Deliveries.{GotsIn, find_got}
+use Rattle.sbp_world.proofs.Hosts.GotServed.{Goes, IsGot, gots_between, gots_of}
 use Rattle.sbp_world.proofs.Hosts.Owing.{GotBehind, asks, block, got_behind, replied, to_it}
 use Rattle.sbp_world.proofs.Hosts.Remaining.{remains}
 use Rattle.sbp_world.proofs.Hosts.SentMoments.{count_now, sent_there, serials_from}
 use Rattle.sbp_world.proofs.Hosts.SlotIgnored.{AllWrites}
 use Rattle.sbp_world.proofs.Hosts.Slotted.{writes_between, writes_of}
-use Rattle.sbp_world.proofs.Lists.PlaceGots.{Goes, IsGot, gots_between, gots_of}
+use Rattle.sbp_world.proofs.Lists.PlaceGots.{place_responds}
 use Rattle.sbp_world.proofs.Lists.PlaceReplies.{IsPlaceReplied}
 
 -- what a run's history has for this
 record Stood (all : List Moment) (i : ℕ) : Type 0 where
   wire : OfWire all
-  gots : GotsIn (IsGot all) all
+  gots : GotsIn (IsGot IsPlaceReplied all) all
   writes : AllWrites all i
 
 module _ (all : List Moment) (i : ℕ) (st : Stood all i) (reply ask place : ℕ) (access : Access) (bytes : List ℕ) (small : place < 2) (reads : IsRead access (start (windows.Management place)) 32) (r : IsResponse all i reply ask access bytes) where
@@ -36,10 +37,10 @@ module _ (all : List Moment) (i : ℕ) (st : Stood all i) (reply ask place : ℕ
   remain : (later before : List Moment) → later ++ before ≡ all → Remains before all
   remain later before e = subst (Remains before) e (remains later before (subst SerialsCount (sym e) st.wire.laws.serials))
 
-  got : IsGot all ask past
-  got = find_got (IsGot all) found.later past ask (subst (GotsIn (IsGot all)) (sym found.is) st.gots)
+  got : IsGot IsPlaceReplied all ask past
+  got = find_got (IsGot IsPlaceReplied all) found.later past ask (subst (GotsIn (IsGot IsPlaceReplied all)) (sym found.is) st.gots)
 
-  goes : Goes all past i ask packet access
+  goes : Goes IsPlaceReplied all past i ask packet access
   goes = got.goes i packet access (record {
     to_it = ap receiver_in found.was ∙ ap (λ n. Some n) (to_it all i st.wire st.writes reply ask access bytes r);
     spelled = ap packet_in found.was ∙ ap spelled_by (asks all i st.wire st.writes reply ask access bytes r).read;
@@ -75,12 +76,12 @@ all_bring : (all : List Moment) (i : ℕ) → Stood all i → BringPlaces all i
 all_bring all i st = λ reply ask place access bytes small reads r. brings all i st reply ask place access bytes small reads r
 
 stood : (line : ℕ) (run : Run) (q : IsRun run) (i : ℕ) → i < run.initiators → Stood (history_of line run) i
-stood line run q i b = record { wire = of_wire line run q; gots = gots_of line run q; writes = writes_of line run q i b }
+stood line run q i b = record { wire = of_wire line run q; gots = gots_of IsPlaceReplied place_responds line run q; writes = writes_of line run q i b }
 
 stood_between : (line : ℕ) (run : Run) (q : IsRun run) (next : ℕ) (event : Event) (told : List (Option Told)) → IsDelivering event told → MayAll told (begun (after (beginning run) run.entries)) → (i : ℕ) → i < run.initiators → Stood (between line run q next event told) i
 stood_between line run q next event told d m i b = record {
   wire = of_wire_there line run q next event told d m;
-  gots = gots_between line run q next event told d m;
+  gots = gots_between IsPlaceReplied place_responds line run q next event told d m;
   writes = writes_between line run q next event told d m i b;
 }
 

@@ -20,7 +20,7 @@ use Rattle.sbp_world.proofs.Hosts.ResponseBytes.{IsBlockRead, asked_most, comple
 use Rattle.sbp_world.proofs.Hosts.Replies.{read_short, same_access}
 
 -- the bytes of a place are those of one ORB
-place_length : (held : Option ManagementOrb) → length (place_bytes held) ≡ 32
+pub place_length : (held : Option ManagementOrb) → length (place_bytes held) ≡ 32
 place_length None = refl
 place_length (Some orb) = refl
 

@@ -1,7 +1,7 @@
 -- A pointer and a doorbell: a list is taken from its first ORB on, and the agent that is at the end of a list stays along it.
 use Rattle.sbp_world.proofs.Words.Std.{◌≡◌, ◌∙◌, refl, sym, ap, subst, ◌<◌, ℕ, zero, suc, Bool, true, false, List, [], ◌∷◌, length, Option, Some, None, Result, Ok, Err, arith, slice_index_or, slice_set, get_or-set_at, get_or-set_other, length-set}
 use Rattle.sbp_world.proofs.Words.Wire.{Packet, Layer, Holder, holder_at, opened_by, opened_step, or_nobody, place_in, list_in, orb_in, Note, empty_outbox, Moment, said}
-use Rattle.sbp_world.proofs.Words.Target.{Login, Phase, PointRefusal, Machine, aligned, named, present_of, doorbell_step, fetch_step, point_in, point_step, Along, AtEnd, Knows, at_start, PointerBrings, complete, Desk, Purpose, noted, pointed_desk, NodeState, Scene, desk_at, login_at, scene, with_agent, with_desk, answer_step, with_side, answered, asked_in, point, pointed_by, rcode_of, ring, rung_by, orb_of, tell_step}
+use Rattle.sbp_world.proofs.Words.Target.{Login, Phase, PointRefusal, Machine, aligned, named, present_of, doorbell_step, point_step, Along, AtEnd, Knows, at_start, PointerBrings, complete, Desk, Purpose, noted, pointed_desk, NodeState, Scene, desk_at, login_at, scene, with_agent, with_desk, answer_step, with_side, answered, asked_in, point, pointed_by, rcode_of, ring, rung_by, orb_of, tell_step}
 use Rattle.sbp_world.proofs.Words.Initiator.{start, Ask, Nothing, OrbPointer}
 use Rattle.sbp_world.proofs.Words.Laws.{address_of, linked, slot_at, is_cut, appends, ends, lists, runs}
 use Rattle.sbp_world.proofs.Words.World.{holder, ticket_at, ticket_of, told, told_all, WorldState, has_list, UnrunLaw, orbs, IsPointed, machine_at, WasHad}

@@ -21,8 +21,7 @@ use Rattle.sbp_world.proofs.Lists.ManageMoments.{MayHand, TakeFacts}
 use Rattle.sbp_world.proofs.Lists.ManageOffices.{office_at, sent_office}
 use Rattle.sbp_world.proofs.Lists.ManageReplies.{GoesOn, reply_goes}
 use Rattle.sbp_world.proofs.Lists.ManageTerms.{none_is}
-use Rattle.sbp_world.proofs.Agents.Handed.{is_its_serial}
-use Rattle.sbp_world.proofs.Common.{untrue}
+use Rattle.sbp_world.proofs.Common.{untrue, serial_is}
 
 -- the operation and its request are as they were, and it asks for nothing where it did so; or there is none
 pub data Stays (o p : Office) : Type 0 where
@@ -147,7 +146,7 @@ module _ (start : List Disk) (i : ℕ) (base : List Moment) where
       by_reply : (own : ℕ) → answered_at t serial ≡ Some own → N ≡ office_of (replied own (answer_in (packet_at t serial)) (over T)) → (b : Bool) → is_serial (over T).manages own ≡ b → Opens start i base got
       by_reply own a n true e =
           let is : N ≡ office_replied (answer_in (packet_at t serial)) (at_rest O) = n ∙ own_reply own (answer_in (packet_at t serial)) (over T) e ∙ ap (office_replied (answer_in (packet_at t serial))) rest_is in
-          answered own (sym (ap (λ (x : Office). x.manages) rest_is) ∙ is_its_serial (over T).manages own e)
+          answered own (sym (ap (λ (x : Office). x.manages) rest_is) ∙ serial_is (over T).manages own e)
           (λ op h. reply_goes O.manager O.table O.keys (answer_in (packet_at t serial)) op (sym (ap (λ (x : Office). x.manager.operation) is) ∙ h))
           (f.replied to own a)
       by_reply own a n false e = rested (rested_of O N (n ∙ other_reply own (answer_in (packet_at t serial)) (over T) e ∙ rest_is))

@@ -15,8 +15,7 @@ use Rattle.sbp_world.proofs.Lists.ManageSends.{Sends, sent_is, sent_other, sent_
 use Rattle.sbp_world.proofs.Lists.ManageSent.{SentFacts, for_one}
 use Rattle.sbp_world.proofs.Lists.ManageTerms.{none_is}
 use Rattle.sbp_world.proofs.Lists.ReplyOffices.{quiet_sent}
-use Rattle.sbp_world.proofs.Agents.Handed.{is_its_serial as serial_there}
-use Rattle.sbp_world.proofs.Common.{untrue}
+use Rattle.sbp_world.proofs.Common.{untrue, serial_is}
 
 -- the operation of the target responds, and waits for the answer to this response
 pub record NewReply (start : List Disk) (now : List Moment) (i s : ℕ) : Type 0 where
@@ -99,7 +98,7 @@ module _ (start : List Disk) (past : List Moment) (i number generation to : ℕ)
         responds = a.responds;
         source = a.source ∙ ap (λ g. (terms now).ids g (suc i)) of_target;
         same = sym of_target ∙ a.current;
-        manages = serial_there (target_at start now).manages number z.1.0;
+        manages = serial_is (target_at start now).manages number z.1.0;
         quiet = no_ask (target_at start now).manager_asks z.0;
       }
 

@@ -1,5 +1,5 @@
 -- Moment by moment an agent of the terms that is in RESET stays so, but where the target gets a packet: a write of ORB_POINTER alone takes it out of RESET.
-use Rattle.sbp_world.proofs.Words.Std.{◌≡◌, ◌∙◌, refl, ap, ℕ, ◌+◌, Bool, true, false, cond, List, [], ◌∷◌, ◌++◌, Option, Some}
+use Rattle.sbp_world.proofs.Words.Std.{◌≡◌, ◌∙◌, refl, ap, ℕ, Bool, true, false, cond, List, [], ◌∷◌, ◌++◌, Option, Some}
 use Rattle.sbp_world.proofs.Words.Wire.{Moment, asked, said, Note}
 use Rattle.sbp_world.proofs.Words.Target.{Phase, Which, Ahead, Main, Machine, Disk, Told, PlainDisk}
 use Rattle.sbp_world.proofs.Words.Initiator.{Nothing, FailCause, Answer}

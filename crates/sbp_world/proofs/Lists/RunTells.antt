@@ -4,7 +4,7 @@ use Rattle.sbp_world.proofs.Words.Std.{arith, ◌≡◌, ◌∙◌, refl, sym, a
 use Rattle.sbp_world.proofs.Words.Wire.{LabelParts, Packet, header_in, Stale, Finding, Layer, expiring_step, judging_step, of_again, of_generation, of_grammar, of_label, of_request, of_response, Sent, Judged, Side, empty_outbox}
 use Rattle.sbp_world.proofs.Words.Target.{Login, IsSound, Table, Decision, Effect, ManagerStep, Outcome, Disk, disk_at, Held, Told, left_by, told_in, PlainDisk, AgentStep, Which, Machine, MayRun, MayTell, reply_step, if_served, Desk, Purpose, follow, new_desk, taken, which_in, cut_placed, decided_by, effect_by, failed_by, manage, managed_in, managed_with, place_in, tell_left, with_manager, NodeState, Scene, desk_at, login_at, scene, with_desk, TellsAt, TellsIn, answer_in, concluded, expired, expired_in, judged_scene, received, received_as, timed_out, with_layer, TellsBy, Whole, advance, advanced_with, announced_by, came, changed_by, follow_all, plain_in, step_replied, replied_by, replied_to, replied_with, served_login, stage, whole, orb_of, tell_ran, clear_from, clear_unit, cut_all}
 use Rattle.sbp_world.proofs.Words.Initiator.{Answer, Expired}
-use Rattle.sbp_world.proofs.Words.World.{faults_after, judged_target, whole_of}
+use Rattle.sbp_world.proofs.Words.World.{faults_after, whole_of}
 use Rattle.login_table.proofs.Searching.{within}
 use Rattle.mgmt_agent.specs.declared.decision.Effect.TheVariants as effects
 use Rattle.mgmt_agent.specs.Machine as management

@@ -2,7 +2,7 @@
 -- the same sides is kept by all that follows a step, where a loss keeps it, and by all that hears of a disc, where what is told of it does.
 use Rattle.sbp_world.proofs.Words.Std.{arith, ◌≡◌, refl, ◌∙◌, ap, ℕ, ◌+◌, ◌<◌, ◌≤◌, nat_eq, Bool, true, false, cond, length, Option, Some, None, nat_tests}
 use Rattle.sbp_world.proofs.Words.Wire.{LabelParts, Body, block_write, Layer, OutboxState}
-use Rattle.sbp_world.proofs.Words.Target.{AgentStep, Which, Login, block, Desk, Purpose, ahead_sent, dropped_by, follow, main_sent, noted, promoted_by, sent_to, without_ahead, new_desk, Announced, Behind, asks_ahead, asks_main, loses, lost_at, pushes, stay, withholds, NodeState, Scene, desk_at, scene, with_desk, request_step, with_side, announce_from, unsolicited_by, unsolicited_from}
+use Rattle.sbp_world.proofs.Words.Target.{AgentStep, Which, Login, block, Desk, Purpose, ahead_sent, dropped_by, follow, main_sent, noted, promoted_by, sent_to, without_ahead, new_desk, Announced, Behind, asks_ahead, asks_main, loses, lost_at, pushes, stay, withholds, NodeState, Scene, desk_at, scene, with_desk, request_step, with_side, announce_from, unsolicited_by, unsolicited_from, changed_by, tell_step}
 use Rattle.sbp_world.proofs.Words.Initiator.{FailCause}
 use Rattle.std.proofs.lemmas.List.{length-set}
 use Rattle.label_table.proofs.Owned.{set_at}
@@ -23,6 +23,15 @@ are_self node = record { desks = refl; agents = λ p. refl }
 
 pub are_then : (one two three : NodeState) → AreSame one two → AreSame two three → AreSame one three
 are_then one two three a b = record { desks = b.desks ∙ a.desks; agents = λ p. b.agents p ∙ a.agents p }
+
+pub changed_same : (x : Bool) (unit place : ℕ) (node : NodeState) → AreSame node (changed_by x unit place node)
+changed_same true unit place node = record { desks = refl; agents = λ p. refl }
+changed_same false unit place node = are_self node
+
+-- what a step tells
+pub noted_outbox : (q : ℕ) (step : AgentStep) (s : Scene) → (noted q step s).outbox ≡ tell_step q (desk_at s.node q).agent step s.outbox
+unfolding noted
+noted_outbox q step s = refl
 
 desk_is : (node : NodeState) (k p : ℕ) (d : Desk) → k < length node.desks → desk_at (with_desk node k d) p ≡ cond (nat_eq p k) d (desk_at node p)
 desk_is node k p d b = set_at node.desks k p d new_desk b

@@ -1,7 +1,7 @@
 -- What a node hands out behind the first note of a turn: what it tells, and its packets behind that.
 use Rattle.sbp_world.proofs.Words.Std.{◌≡◌, ◌∙◌, refl, sym, ap, subst, ℕ, zero, suc, ◌+◌, ◌-◌, ◌==◌, ◌<◌, ◌≤◌, nat_lt, Bool, true, false, cond, List, [], ◌∷◌, ◌++◌, length, Option, Some, None, Result, Ok, Err, arith, nat_tests, slice_index_or, slice_set}
 use Rattle.sbp_world.proofs.Words.Wire.{LabelParts, Stale, Sent, found_sent, Request, id_of, node_of, judged_note, no_node, no_packet, find, OutboxState, empty_outbox, Judged, Action, Note, Outgoing, Side}
-use Rattle.sbp_world.proofs.Words.Target.{Told, NodeState, expired, with_key}
+use Rattle.sbp_world.proofs.Words.Target.{Told, expired, with_key}
 use Rattle.sbp_world.proofs.Words.Initiator.{act_step, Turn, new_state, InitiatorState, expire_step, receive_step, see_step}
 use Rattle.sbp_world.proofs.Words.World.{Arrival, MayAt, MayReceive, MayTold, arrived, at_target, delivered, delivered_by, initiator_received, initiators_received, marked, received_by, received_step, target_received, with_initiators, handed_out, acted, acted_by, keyed, no_unit, weight_in, handed_all, initiator_learns, reset_line, see_line, target_learns, target_sees, target_ticks, tick_line, told_seen, with_seen, MayIf, delivered_if, expires, initiator_expires, inject_line, injected, injected_to, is_in_flight, lose_line, lost, refused, target_expired, target_left, timed_out, timeout_line, timeout_of, asked, posted, sent, sent_all, sent_to, told, told_all, Scene, WorldState, initiator_at, with_initiator, with_note, with_target, AreOthers, IsOther}
 use Rattle.sbp_journal.specs.declared.cause.Judged.TheVariants as judgements

@@ -6,7 +6,7 @@ use Rattle.sbp_journal.specs.declared.event.Action.TheVariants as actions
 use Rattle.sbp_journal.specs.declared.event.Event.TheVariants as events
 use Rattle.sbp_world.proofs.Lists.LiveGiven.{ShortLaw}
 
-short_said : (ns : List Note) (past : List Moment) → AreShort past → AreShort (map said ns ++ past)
+pub short_said : (ns : List Note) (past : List Moment) → AreShort past → AreShort (map said ns ++ past)
 short_said [] past s = s
 short_said (n ∷ ns) past s = short_said ns past s
 
@@ -19,7 +19,7 @@ event_short : (event : Event) (n : ℕ) → IsLine event n → IsShortEvent even
 event_short (events.Act i action) n h = action_short action h.3
 event_short event n h = tt
 
-short_behind : (line : ℕ) (run : Run) (entries : List Entry) → AreLines run entries → AreShort (moments_behind line run entries)
+pub short_behind : (line : ℕ) (run : Run) (entries : List Entry) → AreLines run entries → AreShort (moments_behind line run entries)
 short_behind line run [] lines = (tt, tt)
 short_behind line run (e ∷ before) lines = short_said e.notes _ (event_short e.event _ lines.0, short_behind line run before lines.1)
 

@@ -8,13 +8,12 @@ use Rattle.sbp_world.proofs.Words.Laws.{fifo_in, command_at, orb, prepared_in, s
 use Rattle.sbp_world.proofs.Words.World.{ticket_of, WorldState, initiator_at, Office, AreAgentsAt, AreAskedAt, IsAccessFor, serial_of, IsOf, AreHeldAt, AllBring, NoneInjected, AreRows, name_in, IsNamed, initiator_in, is_open_at}
 use Rattle.bus_memory.specs.declared.window.Window.TheVariants as windows
 use Rattle.bus_memory.proofs.Found.{slot_of_law}
-use Rattle.command_agent.specs.declared.phase.Phase.TheVariants as phases
 use Rattle.sbp_target.proofs.Histories.Calling.{Good, not_eight}
 use Rattle.sbp_target.proofs.Histories.Following.{Fits, IsServed}
 use Rattle.sbp_world.proofs.Agents.Management.Holding.{Holding}
 use Rattle.sbp_world.proofs.Agents.Management.Offices.{over_keeps}
 use Rattle.sbp_world.proofs.Agents.Management.Still.{hist}
-use Rattle.sbp_world.proofs.Agents.AskedAlike.{ahead_alike, main_alike, reads_on}
+use Rattle.sbp_world.proofs.Agents.AskedAlike.{ahead_alike, main_alike, reads_on, status_alike}
 use Rattle.sbp_world.proofs.Agents.Purposes.{g}
 use Rattle.sbp_world.proofs.Hosts.LastingTerms.{AllLast}
 use Rattle.sbp_world.proofs.Hosts.Readings.{read_law}
@@ -108,6 +107,7 @@ module _ (units ready : ℕ) (has : 0 < units) (start_disks : List Disk) {past :
       pub access : Access
       pub is : access_at t serial ≡ Some access
       pub asks : IsAccessFor (under_as which m) status (fifo_in (term_login T place)) access
+      pub status_is : which ≡ Main → status ≡ writes_status m.phase
 
     pub record Who : Type 0 where
       pub same : term_initiator T t place ≡ initiator_in w place
@@ -148,6 +148,7 @@ module _ (units ready : ℕ) (has : 0 < units) (start_disks : List Disk) {past :
           access = r.access;
           is = r.is;
           asks = subst (λ x. IsAccessFor x (writes_status a.machine.phase) (fifo_in (term_login T place)) r.access) (main_alike a.untold a.machine m is.machine) r.asks;
+          status_is = λ own. status_alike a.untold a.machine m is.machine;
         }
     waiting Ahead serial e =
         let reads = ahead_sent serial e in
@@ -162,4 +163,5 @@ module _ (units ready : ℕ) (has : 0 < units) (start_disks : List Disk) {past :
           access = r.access;
           is = r.is;
           asks = subst (λ x. IsAccessFor x false (fifo_in (term_login T place)) r.access) (ahead_alike a.untold a.machine m is.machine fits.agent reads) r.asks;
+          status_is = λ own. absurd (let no : Ahead ≡ Main = own in cc);
         }

@@ -3,7 +3,7 @@
 use Rattle.sbp_world.proofs.Words.Std.{◌<◌, length, arith, ◌≡◌, ◌∙◌, refl, sym, ap, subst, inl, inr, ◌⊎◌, ◌==◌, ◌&&◌, not, ℕ, zero, suc, nat_eq, Bool, true, false, cond, List, [], ◌∷◌, ◌++◌, map, Some, slice_index_or, slice_set, nat_tests}
 use Rattle.sbp_world.proofs.Words.Wire.{Moment, asked, said, terms, NoteBuffer}
 use Rattle.sbp_world.proofs.Words.Initiator.{row_of}
-use Rattle.sbp_world.proofs.Words.Laws.{Orb, SlotState, freed, is_orb, is_over, is_vacant, lowest_vacant, new_slots, orb, prepared_in, put_to_rest, resting, rests_at, slots, used, vacant}
+use Rattle.sbp_world.proofs.Words.Laws.{Orb, SlotState, freed, is_orb, is_over, is_used, is_vacant, lowest_vacant, new_slots, orb, prepared_in, put_to_rest, resting, rests_at, slot_is_open, slots, used, vacant}
 use Rattle.sbp_world.proofs.Words.World.{HasSlot, IsGone, SlotsStayLaw, saw, was_over}
 use Rattle.std.proofs.Common.{get_or-set_same}
 use Rattle.sbp_journal.specs.declared.note.Note.TheVariants as notes
@@ -158,6 +158,14 @@ module _ (i slot : ℕ) (one : Orb) where
       by : Has (later ++ before) ⊎ IsGone later before i one → Has (m ∷ (later ++ before)) ⊎ IsGone (m ∷ later) before i one
       by (inl g) = now (one_on m (later ++ before) g)
       by (inr g) = inr (further g)
+
+-- ---- a slot that has an ORB is open
+open_by : (state : SlotState) (one : Orb) → (state ≡ used one) ⊎ (state ≡ resting) → is_used state ≡ true
+open_by state one (inl e) = ap is_used e
+open_by state one (inr e) = ap is_used e
+
+pub slot_opened : (past : List Moment) (i slot : ℕ) (one : Orb) → HasSlot past i slot one → slot_is_open past i slot ≡ true
+slot_opened past i slot one has = open_by (slice_index_or (slots past i) slot vacant) one has.held
 
 -- ---- it begins with the append
 

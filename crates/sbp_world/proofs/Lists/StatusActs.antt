@@ -10,7 +10,7 @@ use Rattle.orb_layout.specs.declared.ask.FailCause.TheVariants as causes
 use Rattle.sbp_journal.specs.declared.side.Side.TheVariants as sides
 use Rattle.sbp_target.specs.declared.purpose.Purpose.TheVariants as purposes
 use Rattle.sbp_target.proofs.Histories.Calling.{Good}
-use Rattle.sbp_world.proofs.Lists.SameAgents.{AreSame, are_self, set_here, set_there, with_same}
+use Rattle.sbp_world.proofs.Lists.SameAgents.{set_here, set_there, with_same, changed_same}
 use Rattle.sbp_world.proofs.Lists.StatusBytes.{wrote}
 use Rattle.sbp_world.proofs.Lists.StatusFollows.{Done, Followed, Quiet, Step, follows}
 use Rattle.sbp_world.proofs.Lists.StatusPackets.{logged_more, plain_logged, EndSide, IsApart, IsFed, IsPlain, apart_named, at_other, end_of, fed_more, named_more, of_more, one_plain, or_before, reads_more, told_more, unsolicited_apart, unsolicited_small, unsolicited_unread}
@@ -93,10 +93,6 @@ module _ (w : WorldState) (g : Good w.target) (layer : Layer Purpose) where
 
     abbrev pub Acts : Login → Option EndSide → Scene → Type 0
     Acts login early s = Followed q b login Ours M early (M q) s
-
-    changed_same : (x : Bool) (unit place : ℕ) (one : NodeState) → AreSame one (changed_by x unit place one)
-    changed_same true unit place one = record { desks = refl; agents = λ p. refl }
-    changed_same false unit place one = are_self one
 
     is_set : (node : NodeState) (d : Desk) → length node.desks ≡ 8 → (desk_at (with_desk node q d) q).agent ≡ d.agent
     is_set node d e = ap (λ (x : Desk). x.agent) (set_here node q d (omega (arith, e)))

@@ -104,7 +104,7 @@ at_zero len offset size e = let same = same_at 0 len offset size e in omega (ari
 
 module _ (past : List Moment) (i n : ℕ) where
   -- the command of an ORB, in its slot, is one of a line
-  abbrev Laid : ℕ → Type 0
+  abbrev pub Laid : ℕ → Type 0
   Laid k = (cmd : Cmd) × ((command_at past i n k ≡ Some cmd) × IsCommand cmd)
 
   chunk_low : (k : ℕ) → slot_at past i n k < 32 → Laid k → (m : Machine) → IsBufferOf (command_at past i n k) (slot_at past i n k) m.segments → (done total : ℕ) → (chunk_of m done total).offset < 0x1110_0000
@@ -117,7 +117,7 @@ module _ (past : List Moment) (i n : ℕ) where
       let below : AllBelow 0x1110_0000 m.segments = subst (AllBelow 0x1110_0000) (sym is) (laid_below (slot_at past i n k) cmd small cmd.segments short (omega (arith, whole, short)) q.segments) in
       cut_below 0x1110_0000 _ (omega arith) (chunk_from m.segments done (limit_of m.orb)) (chunk_below 0x1110_0000 m.segments below done (limit_of m.orb))
 
-  low_by : (small : (k : ℕ) → slot_at past i n k < 32) (p : Progress) (phase : Phase) (m : Machine) → Knows (orbs past i n) p phase m → (phase ≡ phases.Answering → Laid p.ended) → (offset size : ℕ) → main_ask phase m ≡ asks.Write offset size → offset < 0x1110_0000
+  pub low_by : (small : (k : ℕ) → slot_at past i n k < 32) (p : Progress) (phase : Phase) (m : Machine) → Knows (orbs past i n) p phase m → (phase ≡ phases.Answering → Laid p.ended) → (offset size : ℕ) → main_ask phase m ≡ asks.Write offset size → offset < 0x1110_0000
   low_by small p phases.Answering m k l offset size e =
       let at = (chunk_of m m.written (length m.answer)).offset in
       let same : at ≡ offset = same_at at _ offset size e in

@@ -1,5 +1,5 @@
 -- Each line of a run, and each delivery, keeps that the last ORB of a list stands in its slot while its agent is at the end of the list.
-use Rattle.sbp_world.proofs.Words.Std.{arith, ◌≡◌, ◌∙◌, refl, sym, ap, subst, ◌<◌, ◌≤◌, ℕ, suc, Bool, true, false, List, [], ◌∷◌, ◌++◌, map, length, Option, Some, None, Ok, false≢true}
+use Rattle.sbp_world.proofs.Words.Std.{arith, ◌≡◌, ◌∙◌, refl, sym, ap, subst, ◌<◌, ◌≤◌, ℕ, suc, Bool, true, false, List, [], ◌∷◌, ◌++◌, map, length, Option, Some, None, Ok}
 use Rattle.sbp_world.proofs.Words.Wire.{LabelParts, Packet, header_in, SerialsCount, judging_step, of_request, of_response, Sent, topology_at, holder_at, Event, Note, Moment, asked, said, terms}
 use Rattle.sbp_world.proofs.Words.Target.{Which, Machine, point_step, reply_step, Login, Disk, Told, which_in, desk_at, answer_in, plain_in, is_barred, demand_of}
 use Rattle.sbp_world.proofs.Words.Initiator.{Ask, OrbPointer}

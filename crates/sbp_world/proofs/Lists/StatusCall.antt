@@ -28,7 +28,6 @@ use Rattle.sbp_world.proofs.Lists.StatusSteps.{rests, rests_in}
 use Rattle.sbp_world.proofs.Lists.StatusTold.{IsDue, told_due}
 use Rattle.sbp_world.proofs.Lists.StatusTurn.{Up}
 use Rattle.sbp_world.proofs.Lists.Turns.{Ready}
-use Rattle.sbp_world.proofs.Common.{moment_joined}
 
 -- ---- an agent that is at the end of its list has it open
 has_in : (phase : Phase) (next : OrbPointer) → rests_in phase next ≡ true → has_list phase ≡ true

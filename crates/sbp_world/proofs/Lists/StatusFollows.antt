@@ -10,7 +10,7 @@ use Rattle.bus_memory.specs.declared.window.Window.TheVariants as windows
 use Rattle.orb_layout.specs.declared.ask.Ask.TheVariants as asks
 use Rattle.orb_layout.specs.declared.ask.FailCause.TheVariants as causes
 use Rattle.sbp_target.specs.declared.purpose.Purpose.TheVariants as purposes
-use Rattle.sbp_world.proofs.Lists.SameAgents.{AreSame, noted_same as told_same, set_here, set_there, with_same}
+use Rattle.sbp_world.proofs.Lists.SameAgents.{AreSame, noted_same as told_same, set_here, set_there, with_same, noted_outbox}
 use Rattle.sbp_world.proofs.Lists.StatusBytes.{Wrote, written_at, wrote}
 use Rattle.sbp_world.proofs.Lists.StatusLosses.{block_ends, lost_asks, lost_present, place_ends, quiet_ahead, sent_has}
 use Rattle.sbp_world.proofs.Lists.StatusPackets.{AllFed, AllLogged, IsLogged, all_logged, logged_more, plain_logged, AllNamed, AllRead, AreOf, EndSide, IsEnd, IsEndOf, IsFed, IsFedBy, IsInbox, IsNamed, IsOfEnd, Spelled, ToldSo, all_fed, all_named, all_reads, apart_named, at_own, end_of, fed_more, named_more, of_another, of_buffer, of_fifo, one_plain, one_writes, or_before, read_apart, read_fed, read_plain, reads_more, spelled_as, step_end, step_of, step_packets, told_end}
@@ -50,14 +50,10 @@ module _ (q : ℕ) (b : q < 8) (login : Login) (Ours : Type 0) (machines : ℕ �
   pub noted_same : (step : AgentStep) (s : Scene) → length s.node.desks ≡ 8 → AreSame s.node (noted q step s).node
   noted_same step s e = told_same q b step s e
 
-  pub noted_outbox : (step : AgentStep) (s : Scene) → (noted q step s).outbox ≡ tell_step q (desk_at s.node q).agent step s.outbox
-  unfolding noted
-  noted_outbox step s = refl
-
   noted_quiet : (step : AgentStep) (told : Option EndSide) (m : Machine) (s : Scene) → Quiet told m s → Quiet (or_before (end_of q m step.ended) told) m (noted q step s)
   noted_quiet step told m s k =
       let a = noted_same step s k.desks in
-      let o = noted_outbox step s in
+      let o = noted_outbox q step s in
       record {
         desks = a.desks ∙ k.desks;
         same = λ p f. a.agents p ∙ k.same p f;

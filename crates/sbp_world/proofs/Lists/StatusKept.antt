@@ -1,6 +1,6 @@
 -- The statuses of an initiator are taken as the ORBs ended, of the packets that the ends sent, in every history in which each write of a status to it is such a packet
 -- as it is sent. A status is taken right behind the note that its packet was got, and until then the slot of the ORB keeps it.
-use Rattle.sbp_world.proofs.Words.Std.{arith, ◌≡◌, ◌∙◌, refl, sym, ap, subst, inl, inr, ◌⊎◌, ◌<◌, ◌≤◌, ℕ, suc, Bool, true, false, List, [], ◌∷◌, ◌++◌, Option, Some, None, false≢true, same_Some}
+use Rattle.sbp_world.proofs.Words.Std.{arith, ◌≡◌, ◌∙◌, refl, sym, ap, subst, inl, inr, ◌⊎◌, ◌<◌, ◌≤◌, ℕ, suc, Bool, true, false, List, [], ◌∷◌, ◌++◌, Option, Some, None, same_Some}
 use Rattle.sbp_world.proofs.Words.Wire.{reading, SerialsCount, Access, Moment, asked, said, Sending, terms}
 use Rattle.sbp_world.proofs.Words.Initiator.{start, StatusBlock, StatusKind}
 use Rattle.sbp_world.proofs.Words.Laws.{host_at, Orb, last_got, orb, prepared_in, slot_at, waits_in, access_at, access_in, access_in_bytes, packet_in, receiver_in, fifo_of, status_packet, ended_status, ends, EachMoment}

@@ -1,5 +1,5 @@
 -- Each turn of an initiator, and each line in which no packet is delivered, keeps that the last ORB of a list stands in its slot while its agent is at the end of the list.
-use Rattle.sbp_world.proofs.Words.Std.{◌≡◌, ◌∙◌, refl, sym, ap, subst, ◌-◌, ℕ, suc, nat_eq, nat_lt, Bool, true, false, cond, List, [], ◌∷◌, ◌++◌, map, length, None, slice_index_or, slice_set, false≢true}
+use Rattle.sbp_world.proofs.Words.Std.{◌≡◌, ◌∙◌, refl, sym, ap, subst, ◌-◌, ℕ, suc, nat_eq, nat_lt, Bool, true, false, cond, List, [], ◌∷◌, ◌++◌, map, length, None, slice_index_or, slice_set}
 use Rattle.sbp_world.proofs.Words.Wire.{Sent, judged_note, no_packet, Judged, Event, Note, empty_outbox, Moment, asked, said, id_of, Request}
 use Rattle.sbp_world.proofs.Words.Target.{NodeState, desk_at, with_key}
 use Rattle.sbp_world.proofs.Words.Initiator.{InitiatorState, Turn, new_state, expire_step, receive_step, see_step}

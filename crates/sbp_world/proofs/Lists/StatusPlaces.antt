@@ -3,12 +3,13 @@
 -- operations stand.
 use Rattle.sbp_world.proofs.Words.Std.{◌≡◌, ◌<◌, ℕ, Bool, false, List, ◌++◌, length}
 use Rattle.sbp_world.proofs.Words.Wire.{Moment}
-use Rattle.sbp_world.proofs.Words.Laws.{EachMoment}
+use Rattle.sbp_world.proofs.Words.Laws.{EachMoment, injectors}
 use Rattle.sbp_world.proofs.Words.World.{WorldState, initiator_at, without_notes, JoinedLaw, AreRows, PointersLaw, BegunLaw, AreBehind, AreHere, AreUntaken, Under, WhereTameOrFew, IsCalm, IsTameOrFew, AreOwnOf, AllSentSo, AllStatuses, AreStatuses, SentSo}
 use Rattle.sbp_world.proofs.Agents.Management.Still.{hist}
 use Rattle.sbp_world.proofs.Lists.RunOutcomes.{AreAsked}
 use Rattle.sbp_world.proofs.Lists.StatusAnswers.{answer_free, answers_apart}
 use Rattle.sbp_world.proofs.Lists.StatusBehind.{AllFree}
+use Rattle.sbp_world.proofs.Lists.StatusCall.{AreRested}
 use Rattle.sbp_world.proofs.Lists.StatusOffice.{ArePlacedFor, managed_sends}
 use Rattle.sbp_world.proofs.Lists.StatusProved as proved
 use Rattle.sbp_world.proofs.Lists.StatusProved.{AreNames, ground_law}
@@ -69,6 +70,10 @@ module _ (pointers : PointersLaw) (begun : BegunLaw) where
 
     pub untaken_law : Under (WhereTameOrFew AreUntaken)
     untaken_law = statuses_law.untaken sent_law
+
+    -- and the last ORB of a list, of which a status was taken, has its slot while its agent is at its end
+    pub rested_law : JoinedLaw → Under (WhereTameOrFew (λ ms w. AreRested (injectors ms) ms w))
+    rested_law joined = rested.rested_law free (grounds_law (ground_law pointers begun) joined) (over_law (all_here here names) statuses untaken_law)
 
     pub behind_law : JoinedLaw → Under (WhereTameOrFew AreBehind)
     behind_law joined = rested.behind_law free (grounds_law (ground_law pointers begun) joined) (over_law (all_here here names) statuses untaken_law)

@@ -1,6 +1,6 @@
 -- At each place of a run in which no initiator injected packets, or few logins were given, and before which lists were open as they should be, an ORB whose next pointer is read again stands in
 -- its slot: it is the last one of its list that ended, and told so by the src of its status block.
-use Rattle.sbp_world.proofs.Words.Std.{arith, ◌≡◌, ◌∙◌, refl, sym, ap, subst, ◌<◌, ℕ, suc, nat_eq, Bool, true, false, List, [], ◌∷◌, ◌++◌, map, length, Some, nat_tests, false≢true}
+use Rattle.sbp_world.proofs.Words.Std.{arith, ◌≡◌, ◌∙◌, refl, sym, ap, subst, ◌<◌, ℕ, suc, nat_eq, Bool, true, false, List, [], ◌∷◌, ◌++◌, map, length, Some, nat_tests}
 use Rattle.sbp_world.proofs.Words.Wire.{Node, topology_at, Moment, asked, said, Terms, terms}
 use Rattle.sbp_world.proofs.Words.Target.{Disk}
 use Rattle.sbp_world.proofs.Words.Laws.{lists, injectors}
@@ -202,16 +202,22 @@ module _ (free : (wild : ℕ → Bool) (past : List Moment) (w : WorldState) →
       let h = rested (initiator_in w q) q (mild (initiator_in w q) calm) b rv refl n k list e in
       is_named ms w q n k o.inside (rows (initiator_in w q) o.inside) (record { small = h.slotted.placed.small; is = h.slotted.placed.last })
 
+  pub rested_law : Always Grounds → Under (WhereTameOrFew Over) → Under (WhereTameOrFew (λ ms w. AreRested (injectors ms) ms w))
+  rested_law grounds over = record {
+    after_lines = λ line run r has small size so_far beside. still_after IsTameOrFew tame_or_few_before Grounds Over AreRested grounds over rested_walk first_rested line run r has small size so_far beside;
+    between = λ line run r has small size next most told m so_far beside. still_between IsTameOrFew tame_or_few_before Grounds Over AreRested grounds over rested_walk first_rested line run r has small size next (more_deliveries most) (delivers most) told m so_far beside;
+  }
+
   pub behind_law : Always Grounds → Under (WhereTameOrFew Over) → Under (WhereTameOrFew AreBehind)
   behind_law grounds over = record {
     after_lines = λ line run r has small size so_far beside.
         let w = (after (beginning run) run.entries).world in
-        behind_at (history_of line run) w (injectors (history_of line run)) (λ i calm. calm) (still_after IsTameOrFew tame_or_few_before Grounds Over AreRested grounds over rested_walk first_rested line run r has small size so_far beside)
+        behind_at (history_of line run) w (injectors (history_of line run)) (λ i calm. calm) ((rested_law grounds over).after_lines line run r has small size so_far beside)
         (grounds.after_lines line run r has small size).ground.opened (λ i b. (run_law.rows line run r i (subst (λ n. i < n) (count_after run run.entries) b)).rows);
     between = λ line run r has small size next most told m so_far beside.
         let s = after (beginning run) run.entries in
         let w = (after_all told (begun s)).world in
         let now = map said w.fresh ++ asked next (more_deliveries most) ∷ history_of line run in
-        behind_at now w (injectors now) (λ i calm. calm) (still_between IsTameOrFew tame_or_few_before Grounds Over AreRested grounds over rested_walk first_rested line run r has small size next (more_deliveries most) (delivers most) told m so_far beside)
+        behind_at now w (injectors now) (λ i calm. calm) ((rested_law grounds over).between line run r has small size next most told m so_far beside)
         (grounds.between line run r has small size next most told m).ground.opened (λ i b. (run_law.between line run r next most told m i (subst (λ n. i < n) (count_after run run.entries) (subst (λ n. i < n) (count_between told s) b))).rows);
   }

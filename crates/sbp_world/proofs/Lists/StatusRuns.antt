@@ -1,5 +1,5 @@
 -- Statuses are taken as the ORBs ended in every run in which no initiator injected packets, or few logins were given, and the target sends them so, as lists were open as they should be before.
-use Rattle.sbp_world.proofs.Words.Std.{arith, ◌≡◌, ◌∙◌, refl, sym, ap, subst, ℕ, ◌<◌, ◌≤◌, Bool, true, false, List, ◌∷◌, ◌++◌, map, length, Option, Some, None, false≢true}
+use Rattle.sbp_world.proofs.Words.Std.{arith, ◌≡◌, ◌∙◌, refl, sym, ap, subst, ℕ, ◌<◌, ◌≤◌, Bool, true, false, List, ◌∷◌, ◌++◌, map, length, Option, Some, None}
 use Rattle.sbp_world.proofs.Words.Wire.{Access, Moment, asked, said, Sending, terms, Event}
 use Rattle.sbp_world.proofs.Words.Target.{Told}
 use Rattle.sbp_world.proofs.Words.Laws.{injectors, TakenStatus, taken_at, access_in_bytes, ends, EachMoment}

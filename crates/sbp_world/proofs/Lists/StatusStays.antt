@@ -1,6 +1,6 @@
 -- How an ORB stands in its slot over a turn, while it is not over: in the target's generation the slot has it; and while its initiator is ahead of the target no other ORB
 -- is prepared, so that it is the last one which was prepared there.
-use Rattle.sbp_world.proofs.Words.Std.{arith, ◌≡◌, ◌∙◌, refl, sym, ap, subst, inl, inr, ◌⊎◌, ◌<◌, ◌≤◌, ◌==◌, ℕ, suc, nat_eq, Bool, true, false, cond, List, [], ◌∷◌, ◌++◌, map, Some, nat_tests, false≢true}
+use Rattle.sbp_world.proofs.Words.Std.{arith, ◌≡◌, ◌∙◌, refl, sym, ap, subst, inl, inr, ◌⊎◌, ◌<◌, ◌≤◌, ◌==◌, ℕ, suc, nat_eq, Bool, true, false, cond, List, [], ◌∷◌, ◌++◌, map, Some, nat_tests}
 use Rattle.sbp_world.proofs.Words.Wire.{Moment, said, terms, Note}
 use Rattle.sbp_world.proofs.Words.Laws.{is_over, orb, prepared_in, slot_at}
 use Rattle.sbp_world.proofs.Words.World.{AllOf, of_rest, HasSlot, IsGone, saw, was_over}

@@ -1,5 +1,5 @@
 -- In a run in which lists were open as they should be before, each turn keeps that the last ORB of a list stands in its slot while its agent is at the end of the list.
-use Rattle.sbp_world.proofs.Words.Std.{arith, ◌≡◌, ◌∙◌, refl, sym, ap, subst, ◌<◌, ◌≤◌, ℕ, zero, suc, nat_eq, nat_lt, Bool, true, false, cond, List, [], ◌∷◌, length, Option, Some, None, Result, Ok, Err, slice_index_or, slice_set, false≢true}
+use Rattle.sbp_world.proofs.Words.Std.{arith, ◌≡◌, ◌∙◌, refl, sym, ap, subst, ◌<◌, ◌≤◌, ℕ, zero, suc, nat_eq, nat_lt, Bool, true, false, cond, List, [], ◌∷◌, length, Option, Some, None, Result, Ok, Err, slice_index_or, slice_set}
 use Rattle.sbp_world.proofs.Words.Wire.{Stale, Layer, expiring_step, Sent, found_sent, judged_note, end_note, no_packet, Event, empty_outbox, OutboxState, Moment, asked, said, Request, find}
 use Rattle.sbp_world.proofs.Words.Target.{Told, Purpose, TargetScene, scene, expired_in, expired}
 use Rattle.sbp_world.proofs.Words.Initiator.{new_state, receive_step}

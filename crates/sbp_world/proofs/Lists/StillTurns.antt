@@ -39,7 +39,7 @@ use Rattle.sbp_world.proofs.Lists.Sites.{Site, waiting}
 use Rattle.sbp_world.proofs.Lists.StillReads.{AreStill, IsHad, ahead_name, had_still, main_name, named_over, o, still_had}
 use Rattle.sbp_world.proofs.Lists.TurnReads.{Course, Gets, delivery_course, line_course, turn_over}
 use Rattle.sbp_world.proofs.Hosts.Outboxes.{line_stays as event_behind}
-use Rattle.sbp_world.proofs.Common.{untrue}
+use Rattle.sbp_world.proofs.Common.{untrue, same_node}
 
 -- ---- what is known of a place
 pub record Ground (start : List Disk) (ms : List Moment) (w : WorldState) : Type 0 where
@@ -195,9 +195,6 @@ module _ (units ready : ℕ) (has : 0 < units) (start : List Disk) (past : List 
 
     -- what a packet brings
     module _ (ms : List Moment) (same : over (target_at start ms) ≡ T) (sent : (terms ms).sent ≡ (terms before).sent) (there : (i slot : ℕ) → prepared_in ms i slot ≡ prepared_in before i slot) (serial : ℕ) (front : List Moment) (is : front ++ said (notes.Got serial) ∷ ms ≡ now) where
-      same_node : (i j : ℕ) → Some (suc i) ≡ Some (suc j) → i ≡ j
-      same_node i j e = cc
-
       just_had : (p : ℕ) → p < 8 → IsCalm now (initiator_in w p) → (address : ℕ) (orb : CommandOrb) → IsJustBrought start ms serial p address orb → IsHad start now before w p address orb
       just_had p b calm address orb x =
           let y = x.from in

@@ -10,7 +10,6 @@ use Rattle.sbp_journal.specs.declared.note.Note.TheVariants as notes
 use Rattle.sbp_world.specs.Lists.TakenTurns.{IgnoredSo}
 use Rattle.sbp_world.proofs.Hosts.Remaining.{remains}
 use Rattle.sbp_world.proofs.Hosts.SentMoments.{sent_below, serials_from}
-use Rattle.sbp_world.proofs.Hosts.Statuses.Waits.{all_three}
 use Rattle.sbp_world.proofs.Lists.AnswersCarriedBefore.{known_from}
 use Rattle.sbp_world.proofs.Lists.ManageTerms.{judges_news}
 use Rattle.sbp_world.proofs.Lists.OpenNews.{all_grow, got_more}
@@ -21,7 +20,7 @@ use Rattle.sbp_world.proofs.Lists.StatusLogins.{each_there}
 use Rattle.sbp_world.proofs.Lists.StatusMoments.{HasTaken, below, packet_stays, taken_stays}
 use Rattle.sbp_world.proofs.Lists.StatusRuns.{Once}
 use Rattle.sbp_world.proofs.Lists.TakenHistory.{are_appended, one_orb, present_before}
-use Rattle.sbp_world.proofs.Common.{is_inside, itself, moments_split, untrue}
+use Rattle.sbp_world.proofs.Common.{is_inside, itself, moments_split, untrue, all_three}
 
 -- ---- a packet that is ignored for its slot is of its receiver's generation, and was not taken as new before
 slot_by : (c n r a e : Bool) → may_ignore_by (row_of (record { is_current = c; is_for_node = n; is_response = r; is_awaited = a; is_repeated = e })) causes.Slot ≡ true → c ≡ true

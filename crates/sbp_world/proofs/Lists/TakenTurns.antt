@@ -1,27 +1,25 @@
 -- Statuses are taken in the order of their ORBs, without a gap: where an ORB ended, the status block of each one before it was answered, so it was got, and taken.
 use Rattle.sbp_world.proofs.Words.Std.{arith, ◌≡◌, ◌∙◌, refl, sym, ap, subst, ◌<◌, ℕ, nat_lt, Bool, true, false, List, [], ◌∷◌, ◌++◌, Option, Some, None, nat_tests, none-some}
-use Rattle.sbp_world.proofs.Words.Wire.{SerialsCount, Moment, asked, said, terms}
+use Rattle.sbp_world.proofs.Words.Wire.{SerialsCount, Moment, asked, said}
 use Rattle.sbp_world.proofs.Words.Initiator.{is_fifo, StatusKind}
-use Rattle.sbp_world.proofs.Words.Laws.{injectors, TakenStatus, last_got, present_list, taken_at, waits_in, status_packet, ended_status, lists, EachMoment, EachTurn}
-use Rattle.sbp_world.proofs.Words.World.{after, beginning, IsOfWire, more_deliveries, AllOfTarget, AllSentSo, AreStatuses, IsCalm, IsTakenBy, IsTakenSo, IsToHost, MayStand, SentSo, TakenOf, TakenSo, TakesDue, Under, WasClosed, WhereTameOrFew}
+use Rattle.sbp_world.proofs.Words.Laws.{injectors, TakenStatus, last_got, present_list, taken_at, waits_in, ended_status, lists, EachMoment, EachTurn}
+use Rattle.sbp_world.proofs.Words.World.{after, beginning, IsOfWire, more_deliveries, AllOfTarget, AllSentSo, AreStatuses, IsCalm, IsTakenBy, IsTakenSo, MayStand, SentSo, TakenOf, TakenSo, TakesDue, Under, WhereTameOrFew}
 use Rattle.sbp_journal.specs.declared.note.Note.TheVariants as notes
 use Rattle.sbp_world.specs.Lists.TakenTurns.{AnsweredLaw, EndsBehind, IgnoredSo, TakenTurnsLaw, TakesInOrder, WasAnswered, takes_in}
-use Rattle.sbp_world.proofs.Hosts.Remaining.{remains}
 use Rattle.sbp_world.proofs.Hosts.Runs.{count_after, count_between}
-use Rattle.sbp_world.proofs.Hosts.SentMoments.{WasSent, sent_below, sent_moment, serials_from}
+use Rattle.sbp_world.proofs.Hosts.SentMoments.{WasSent, sent_moment}
 use Rattle.sbp_world.proofs.Hosts.Statuses.Runs.{taking_law}
 use Rattle.sbp_world.proofs.Lists.Clauses.{open_lists_law}
-use Rattle.sbp_world.proofs.Lists.DataServed.{closed_on}
 use Rattle.sbp_world.proofs.Lists.IgnoredSlots.{ignored_law}
 use Rattle.sbp_world.proofs.Lists.ListsProved.{closing, sent_so}
 use Rattle.sbp_world.proofs.Lists.LiveShort.{here_beside, placed_beside}
+use Rattle.sbp_world.proofs.Lists.OverTies.{answered_on}
 use Rattle.sbp_world.proofs.Lists.Passing.{PassLaw}
 use Rattle.sbp_world.proofs.Lists.Rises.{Rises}
 use Rattle.sbp_world.proofs.Lists.ShortLines.{short_law}
 use Rattle.sbp_world.proofs.Lists.StatusKept.{statuses_of}
 use Rattle.sbp_world.proofs.Lists.StatusKnown.{each_from, waits_so}
 use Rattle.sbp_world.proofs.Lists.StatusLogins.{each_there}
-use Rattle.sbp_world.proofs.Lists.StatusMoments.{packet_stays}
 use Rattle.sbp_world.proofs.Lists.StatusRuns.{Once, after_by, between_by}
 use Rattle.sbp_world.proofs.Lists.TakenGots.{IsTold, not_served, told_from, turns_before}
 use Rattle.sbp_world.proofs.Lists.TakenHistory.{WasEnded, counted, ended_moment, present_before}
@@ -30,6 +28,18 @@ use Rattle.sbp_world.proofs.Common.{delivers, itself, moments_split}
 
 -- ---- a status that is taken is the next one of its list
 module _ (wild : ℕ → Bool) (i : ℕ) (own : wild i ≡ false) where
+  -- a status of the present list that was answered was taken
+  module _ (past : List Moment) (told : IsTold wild past i) (turns : EachTurn (TakesDue i) past) (n k : ℕ) (a : WasAnswered past i n k) where
+    -- as it was sent
+    fifo : is_fifo a.writes.access.offset ≡ true
+    fifo =
+        let s : WasSent past a.serial a.packet = sent_moment past a.serial a.packet a.sent.is in
+        let so = each_there (SentSo i) s.later _ s.before (subst (λ h. EachMoment (SentSo i) h) (sym s.is) told.sent) in
+        (so a.sent.from_target a.sent.to_host a.slot a.block a.writes).fifo a.writes.access a.writes.is
+
+    pub answered_taken : present_list past i ≡ Some n → taken_at past i n k ≡ None → ⊥
+    answered_taken present untaken = not_served wild i own past told n k a.serial a.slot a.packet a.block a.sent a.writes a.of present untaken fifo turns a.closed
+
   -- where an ORB of the present list ended, no status before its own is untaken
   module _ (past : List Moment) (told : IsTold wild past i) (turns : EachTurn (TakesDue i) past) (behind : EachMoment (EndsBehind i) past) (n k : ℕ) (status : StatusKind) (present : present_list past i ≡ Some n) (ended : ended_status past i n k ≡ Some status) where
     abbrev w : WasEnded i past n k status
@@ -54,34 +64,11 @@ module _ (wild : ℕ → Bool) (i : ℕ) (own : wild i ≡ false) where
     present_then : present_list w.before i ≡ Some n
     present_then = present_before i n front w.before (subst (λ h. EachMoment (MayStand i) h) (sym whole) told.moments) had_begun (ap (λ h. present_list h i) whole ∙ present)
 
-    module _ (l : ℕ) (less : l < k) (untaken : taken_at past i n l ≡ None) where
-      a : WasAnswered w.before i n l
-      a = each_there (EndsBehind i) w.later end w.before (subst (λ h. EachMoment (EndsBehind i) h) (sym w.is) behind) (itself i) present_then l less
-
-      to : IsToHost past i a.serial a.packet
-      to =
-          let c = subst SerialsCount (sym whole) told.known.serials in
-          record {
-            is = ap (λ h. (terms h).sent a.serial) (sym whole) ∙ ((remains front w.before c).sent a.serial (sent_below w.before a.serial a.packet (serials_from front w.before c) a.sent.is) ∙ a.sent.is);
-            from_target = a.sent.from_target;
-            to_host = a.sent.to_host;
-          }
-
-      of : status_packet past i n l ≡ Some a.serial
-      of = ap (λ h. status_packet h i n l) (sym whole) ∙ packet_stays i n l a.serial front w.before a.of
-
-      closed : WasClosed past a.serial
-      closed = subst (λ h. WasClosed h a.serial) whole (closed_on front w.before a.serial a.closed)
-
-      -- as it was sent
-      fifo : is_fifo a.writes.access.offset ≡ true
-      fifo =
-          let s : WasSent past a.serial a.packet = sent_moment past a.serial a.packet to.is in
-          let so = each_there (SentSo i) s.later _ s.before (subst (λ h. EachMoment (SentSo i) h) (sym s.is) told.sent) in
-          (so to.from_target to.to_host a.slot a.block a.writes).fifo a.writes.access a.writes.is
-
-      none_untaken : ⊥
-      none_untaken = not_served wild i own past told n l a.serial a.slot a.packet a.block to a.writes of present untaken fifo turns closed
+    none_untaken : (l : ℕ) → l < k → taken_at past i n l ≡ None → ⊥
+    none_untaken l less untaken =
+        let a : WasAnswered w.before i n l = each_there (EndsBehind i) w.later end w.before (subst (λ h. EachMoment (EndsBehind i) h) (sym w.is) behind) (itself i) present_then l less in
+        let now : WasAnswered past i n l = subst (λ h. WasAnswered h i n l) whole (answered_on front w.before i n l (subst SerialsCount (sym whole) told.known.serials) a) in
+        answered_taken past told turns n l now present untaken
 
   untaken : (past : List Moment) (n k : ℕ) → ((t : TakenStatus) → taken_at past i n k ≡ Some t → ⊥) → taken_at past i n k ≡ None
   untaken past n k none = by (taken_at past i n k) refl
@@ -159,7 +146,7 @@ takes_where ms i calm passes wire once rise takings sources sent l =
       ignored = l.ignored;
     }) l.turns l.behind
 
-all_sent : Under (WhereTameOrFew AllSentSo)
+pub all_sent : Under (WhereTameOrFew AllSentSo)
 all_sent = sent_so (here_beside short_law) (placed_beside short_law)
 
 -- where the status blocks of the ORBs before one that ends were answered

@@ -1,4 +1,5 @@
 -- What is told of a step of the agent of a place: notes of the ORB behind those that have ended, which the order law has there.
+use Rattle.sbp_world.proofs.Common.{or_left, or_right}
 use Rattle.sbp_world.proofs.Words.Std.{◌≡◌, ◌∙◌, refl, sym, ap, subst, ◌<◌, ◌≤◌, ◌||◌, ℕ, suc, is_some, Bool, true, false, List, ◌∷◌, ◌++◌, map, Option, Some, None, IfSome, arith}
 use Rattle.sbp_world.proofs.Words.Wire.{Holder, check_of, dead_note, ended_note, list_in, orb_in, ran_note, Moment, said, Note}
 use Rattle.sbp_world.proofs.Words.Target.{Sense, Outcome, PlainDisk, AgentStep, Machine, has_present, src_of, Along, Progress, IsEnd, IsRun, Keeps, end_by, progress_by, run_by, orb_of}
@@ -12,7 +13,6 @@ use Rattle.sbp_world.proofs.Lists.Later.{had_next}
 use Rattle.sbp_world.proofs.Lists.Passing.{PassLaw, EndsNext, GoesOn, HasRun}
 use Rattle.sbp_world.proofs.Lists.Named.{IsTurn, as_read, ended_more, ended_other, order_ended, order_ran}
 use Rattle.sbp_world.proofs.Lists.StatusLosses.{present_is}
-use Rattle.sbp_world.proofs.Lists.OpenedCauses.{either as or_left, or_else}
 use Rattle.sbp_world.proofs.Lists.Stands.{no}
 
 -- what is known of the agent of a place, by who has it
@@ -324,7 +324,7 @@ module _ (wild : ℕ → Bool) (past : List Moment) (v : WorldState) (q n : ℕ)
       stage_ended step m p apart own step.ended (dead_fresh step.dead (ran_fresh step.ran m fresh))
       (end_ended step.ended (src_of m.orb.next) q ∙ ap (λ x. ended_by step.ended x) (run_ended step.ran m.answer p))
       (end_outcome step.ended (src_of m.orb.next) q)
-      (or_else (is_some step.ran) (is_some step.ended)) dead
+      (or_right (is_some step.ran) (is_some step.ended)) dead
 
   wild_no : wild i ≡ true → wild i ≡ false → ⊥
   wild_no e f = no (sym f ∙ e)

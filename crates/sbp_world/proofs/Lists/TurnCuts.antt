@@ -29,20 +29,8 @@ module _ (past : List Moment) (i n : ℕ) where
   unfolding told_all told
   beside_ends [] w h = refl
   beside_ends (sides.Own note ∷ later) w h = absurd h.0
-  beside_ends (sides.Opened place orb ∷ later) w h = absurd h.0
-  beside_ends (sides.Ran place orb cdb payload outcome ∷ later) w h = absurd h.0
   beside_ends (sides.Ended place orb status ∷ later) w h = absurd h.0
-  beside_ends (sides.Dead place cause ∷ later) w h = beside_ends later (told 0 (sides.Dead place cause) w) h.1
-  beside_ends (sides.Cut place cause ∷ later) w h = beside_ends later (told 0 (sides.Cut place cause) w) h.1
-  beside_ends (sides.Managed node function subject status login ∷ later) w h = beside_ends later (told 0 (sides.Managed node function subject status login) w) h.1
-  beside_ends (sides.ManageFailed node cause ∷ later) w h = beside_ends later (told 0 (sides.ManageFailed node cause) w) h.1
-  beside_ends (sides.Held login ∷ later) w h = beside_ends later (told 0 (sides.Held login) w) h.1
-  beside_ends (sides.Expired login ∷ later) w h = beside_ends later (told 0 (sides.Expired login) w) h.1
-  beside_ends (sides.Back login ∷ later) w h = beside_ends later (told 0 (sides.Back login) w) h.1
-  beside_ends (sides.Left login ∷ later) w h = beside_ends later (told 0 (sides.Left login) w) h.1
-  beside_ends (sides.Cleared unit ∷ later) w h = beside_ends later (told 0 (sides.Cleared unit) w) h.1
-  beside_ends (sides.Unsolicited place ∷ later) w h = beside_ends later (told 0 (sides.Unsolicited place) w) h.1
-  beside_ends (sides.Unsent place ∷ later) w h = beside_ends later (told 0 (sides.Unsent place) w) h.1
+  beside_ends (side ∷ later) w h = beside_ends later (told 0 side w) h.1
 
 -- ---- one call
 module _ (past : List Moment) (w v : WorldState) (c : IsCalled past w v) (p : ℕ) (up : IsUp (machine_at w p)) (over : (machine_at v p).phase ≡ phases.Reset) where

@@ -5,7 +5,7 @@ use Rattle.sbp_world.proofs.Words.Wire.{Stale, Layer, expiring_step, Sent, found
 use Rattle.sbp_world.proofs.Words.Target.{Told, alone, sees, ticks, Purpose, TargetScene, scene, expired, expired_in, received, with_key}
 use Rattle.sbp_world.proofs.Words.Initiator.{new_state, receive_step}
 use Rattle.sbp_world.proofs.Words.Laws.{OrderLaw}
-use Rattle.sbp_world.proofs.Words.World.{Arrival, arrived, at_target, delivered, delivered_by, initiator_received, initiators_received, marked, received_by, received_step, target_received, whole_of, with_initiators, handed_out, MayHappen, happens, keyed, no_unit, reset_line, see_line, target_sees, target_ticks, tick_line, told_seen, with_seen, MayIf, delivered_if, expires, initiator_expires, inject_line, is_in_flight, lose_line, may_repeat, refused, target_expired, target_left, timed_out, timeout_line, timeout_of, Scene, WorldState, begun, with_note, with_target, without_notes, IsLine}
+use Rattle.sbp_world.proofs.Words.World.{Arrival, arrived, at_target, delivered, delivered_by, initiator_received, initiators_received, marked, received_by, received_step, target_received, whole_of, with_initiators, handed_out, MayHappen, happens, keyed, no_unit, see_line, target_sees, target_ticks, tick_line, told_seen, with_seen, MayIf, delivered_if, expires, initiator_expires, is_in_flight, may_repeat, refused, target_expired, target_left, timed_out, timeout_line, timeout_of, Scene, WorldState, begun, with_note, with_target, without_notes, IsLine}
 use Rattle.sbp_journal.specs.declared.cause.Judged.TheVariants as judgements
 use Rattle.sbp_journal.specs.declared.event.Event.TheVariants as events
 use Rattle.sbp_journal.specs.declared.note.Note.TheVariants as notes

@@ -12,7 +12,7 @@ use Rattle.sbp_journal.specs.declared.note.Note.TheVariants as notes
 use Rattle.sbp_target.proofs.Histories.Calling.{Good}
 use Rattle.sbp_world.proofs.Agents.Management.Still.{hist}
 use Rattle.sbp_world.proofs.Lists.Follows.{Mid, Pending, announce_from_mid, follow_mid}
-use Rattle.sbp_world.proofs.Lists.SameAgents.{AreSame, are_self, set_here, set_there}
+use Rattle.sbp_world.proofs.Lists.SameAgents.{set_here, set_there, changed_same}
 use Rattle.sbp_world.proofs.Lists.Kept.{Kept, keeps}
 use Rattle.sbp_world.proofs.Lists.Lists.{laid}
 use Rattle.sbp_world.proofs.Lists.Looks.{Looks, kept_looks, looks_as}
@@ -260,10 +260,6 @@ module _ (wild : ℕ → Bool) (past : List Moment) (w : WorldState) (r : Ready 
           present = replied_presents (M q) q plain told which answer;
           had = o.had;
         }
-
-    changed_same : (x : Bool) (unit place : ℕ) (one : NodeState) → AreSame one (changed_by x unit place one)
-    changed_same true unit place one = record { desks = refl; agents = λ p. refl }
-    changed_same false unit place one = are_self one
 
     announced_mid : (x : Bool) (s : Scene) → Mid wild past u v q act.n M b off s → Mid wild past u v q act.n M b off (announced_by x login.unit q s)
     announced_mid true s m = announce_from_mid wild past u v q act.n M b off 8 0 login.unit q (omega arith) s m

@@ -12,7 +12,7 @@ use Rattle.sbp_journal.specs.declared.note.Note.TheVariants as notes
 use Rattle.sbp_journal.specs.declared.operation.FunctionWord.TheVariants as functions
 use Rattle.sbp_world.proofs.Agents.Management.Firsts.{wire_is}
 use Rattle.sbp_world.proofs.Agents.Management.Offices.{over_keeps}
-use Rattle.sbp_world.proofs.Common.{equal, none_is, untrue}
+use Rattle.sbp_world.proofs.Common.{none_is, untrue, serial_is}
 use Rattle.sbp_world.proofs.Lists.AgentFolds.{AreKept, at_place, AreSo, AreStill, Every, cut_still, new_there, over_still, set_so, set_still, so, stand, stand_still}
 use Rattle.sbp_world.proofs.Lists.AgentNotes.{managed_kept, note_kept, pick}
 use Rattle.sbp_world.proofs.Lists.UnmarkedDecisions.{NoAbortIn, expired_spares, is_abort, reply_not}
@@ -123,10 +123,6 @@ module _ (T : Target) (h : All T) where
 -- an answer to the request of the management operation decides on no abort
 abbrev pub SparesAll : Terms → ℕ → Target → Type 0
 SparesAll wire serial t = (own : ℕ) → answered_at wire serial ≡ Some own → t.manages ≡ Some own → (op : Operation) → t.manager.operation ≡ Some op → NoAbortIn op.phase (answer_in (packet_at wire serial))
-
-serial_is : (found : Option ℕ) (serial : ℕ) → is_serial found serial ≡ true → found ≡ Some serial
-serial_is None serial e = untrue e
-serial_is (Some other) serial e = ap Some (equal other serial e)
 
 module _ (t : Target) (h : AreSo Clean t) where
   abbrev T : Target

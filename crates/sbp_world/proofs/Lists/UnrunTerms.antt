@@ -1,6 +1,6 @@
 -- How often the first ORB of a list ran, by a history that goes on: a list that did not begin yet ran none; an end that is told of the latest list is one of its ORBs;
 -- and lists that were cut or of which some ended stay so.
-use Rattle.sbp_world.proofs.Words.Std.{arith, ◌≡◌, ◌∙◌, refl, sym, ap, subst, ◌<◌, ◌≤◌, ◌+◌, ℕ, suc, nat_eq, Bool, true, false, cond, List, [], ◌∷◌, ◌++◌, Option, Some, None, nat_tests, false≢true, same_Some}
+use Rattle.sbp_world.proofs.Words.Std.{arith, ◌≡◌, ◌∙◌, refl, sym, ap, subst, ◌<◌, ◌≤◌, ◌+◌, ℕ, suc, nat_eq, Bool, true, false, cond, List, [], ◌∷◌, ◌++◌, Option, Some, None, nat_tests, false≢true}
 use Rattle.sbp_world.proofs.Words.Wire.{LabelParts, node_of, Note, Outgoing, Side, Moment, said}
 use Rattle.sbp_world.proofs.Words.Initiator.{StatusKind}
 use Rattle.sbp_world.proofs.Words.Laws.{is_cut, ends, lists, runs}

@@ -1,5 +1,5 @@
 -- What each transaction of the agent of a place is, by the terms of a history: one that was sent since a moment, or of a kind that it had then, where it had no other at that moment. So it is from then on.
-use Rattle.sbp_world.proofs.Words.Std.{arith, ◌≡◌, ◌∙◌, ◌⊎◌, inl, inr, refl, sym, ap, subst, ◌<◌, ◌≤◌, ◌+◌, ◌||◌, not, nat_eq, nat_tests, ℕ, Bool, true, false, cond, List, [], ◌∷◌, ◌++◌, Option, Some, None, Result, Ok, Err, is_none, position, unwrap_or, false≢true, same_Some}
+use Rattle.sbp_world.proofs.Words.Std.{arith, ◌≡◌, ◌∙◌, ◌⊎◌, inl, inr, refl, sym, subst, ◌<◌, ◌≤◌, ◌+◌, ◌||◌, not, nat_eq, nat_tests, ℕ, Bool, true, false, cond, List, [], ◌∷◌, ◌++◌, Option, Some, None, Result, Ok, Err, is_none, position, unwrap_or, false≢true, same_Some}
 use Rattle.sbp_world.proofs.Words.Wire.{SerialsCount, Access, Register, Start, agent_reset, agent_state, doorbell, management_agent, no_start, orb_pointer, register, rom_start, start_at, start_serves, unsolicited_enable, Moment, asked, said, Terms, terms}
 use Rattle.sbp_world.proofs.Words.Target.{AgentStep, PointRefusal, Which, Ahead, Main, Machine, is_ahead, lost_step, point_step, reply_step, Busy, Disk, PlainDisk, Told}
 use Rattle.sbp_world.proofs.Words.Initiator.{Ask, Nothing, offset_at, pointer_at, Answer, Expired}
@@ -200,8 +200,11 @@ pub young_on : (count : ℕ) (Kind : ℕ → Type 0) (start : List Disk) (p : �
 young_on count Kind start p later before c low h = such_on (Young count Kind) p start before later (all_young count Kind p later before c low) h
 
 -- as the turn ends
+pub young_ended : (count : ℕ) (Kind : ℕ → Type 0) (start : List Disk) (p : ℕ) (ms : List Moment) → IsYoung count Kind start ms p → HasSuch (Young count Kind) (agent_at (over (target_at start ms)) p)
+young_ended count Kind start p ms h = ((over_still (Such (Young count Kind) p) (are_such (Young count Kind) p).lasting (target_at start ms) h).agents p) refl
+
 pub young_over : (count : ℕ) (Kind : ℕ → Type 0) (start : List Disk) (p : ℕ) (ms : List Moment) → IsYoung count Kind start ms p → (s : ℕ) → (agent_at (over (target_at start ms)) p).main ≡ Some s → Young count Kind s
-young_over count Kind start p ms h s e = (((over_still (Such (Young count Kind) p) (are_such (Young count Kind) p).lasting (target_at start ms) h).agents p) refl).0 s e
+young_over count Kind start p ms h s e = (young_ended count Kind start p ms h).0 s e
 
 -- where a reply to the main transaction of the agent waits, and its read ahead is of the kind
 pub young_since : (count : ℕ) (Kind : ℕ → Type 0) (start : List Disk) (ms : List Moment) (p : ℕ) (t : Target) (answer : Answer) → t.reply ≡ None → ((s : ℕ) → (agent_at t p).ahead ≡ Some s → Kind s) → target_at start ms ≡ replied_to (for_agent p Main) answer t → IsYoung count Kind start ms p

@@ -35,7 +35,7 @@ use Rattle.sbp_world.proofs.Pointers.Resetting.{asked_host, resetting_back, told
 use Rattle.sbp_world.proofs.Pointers.Sending.{names}
 use Rattle.sbp_world.proofs.Pointers.Steps.{ToldAs, append, append_present, links, links_still, silent, told_as}
 use Rattle.sbp_world.proofs.Pointers.Waits.{state_told}
-use Rattle.sbp_world.proofs.Common.{itself, cond_off, cond_on, untrue}
+use Rattle.sbp_world.proofs.Common.{itself, cond_off, cond_on, untrue, serial_is}
 use Rattle.sbp_world.proofs.Pointers.Naming.{none_some}
 use Rattle.sbp_world.proofs.Pointers.Writing.{absurd_below}
 use Rattle.sbp_world.proofs.Hosts.PointActs.{has_list}
@@ -130,10 +130,6 @@ acted_cases actions.TargetReset list serial host u e r = absurd (let x : operati
 acted_cases actions.Enable list serial host u e r = absurd (let x : operations.Enable ≡ operations.AgentReset = (let y : u.operation ≡ operations.Enable = cc in sym y ∙ r) in cc)
 
 -- ---- what is named
-
-serial_is : (p : Option ℕ) (serial : ℕ) → is_serial p serial ≡ true → p ≡ Some serial
-serial_is None serial e = untrue e
-serial_is (Some other) serial e = let same : other ≡ serial = grind (arith, nat_tests) in ap Some same
 
 told_so : (a b : Bool) (list : Option ℕ) (n : ℕ) → told_of (a && b) list ≡ Some n → a ≡ true
 told_so true b list n e = refl

@@ -7,11 +7,9 @@ use Rattle.sbp_world.proofs.Words.World.{session_in, is_seated}
 use Rattle.sbp_journal.specs.declared.event.Action.TheVariants as actions
 use Rattle.sbp_journal.specs.declared.operation.Operation.TheVariants as operations
 use Rattle.sbp_session.proofs.Rows.{response_by_moves}
-use Rattle.sbp_session.specs.declared.seat.Origin.TheVariants as origins
 use Rattle.sbp_session.specs.declared.seat.Seat.TheVariants as seats
 use Rattle.sbp_world.proofs.Hosts.Knowing.{Sits}
 use Rattle.sbp_world.proofs.Pointers.Walks.{is_kept}
-use Rattle.sbp_world.proofs.Lists.Bases.{seated}
 use Rattle.sbp_world.proofs.Common.{untrue}
 
 -- ---- the response stays

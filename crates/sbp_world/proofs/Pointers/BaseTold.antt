@@ -1,6 +1,6 @@
 -- What is told that refuses a logout, and that ends an operation; and what notes leave of the lists for which ORB_POINTER was written and of those that reads
 -- of AGENT_STATE tell of.
-use Rattle.sbp_world.proofs.Words.Std.{arith, ◌≡◌, refl, sym, ◌∙◌, ap, subst, ℕ, zero, suc, ◌==◌, ◌&&◌, ◌||◌, nat_eq, not, Bool, true, false, cond, List, [], ◌∷◌, ◌++◌, Option, Some, None, nat_tests, not-true}
+use Rattle.sbp_world.proofs.Words.Std.{arith, ◌≡◌, refl, sym, ◌∙◌, ap, subst, ℕ, zero, suc, ◌==◌, ◌&&◌, ◌||◌, nat_eq, Bool, true, false, cond, List, [], ◌∷◌, ◌++◌, Option, Some, None, nat_tests, not-true}
 use Rattle.sbp_world.proofs.Words.Wire.{judged_note, Moment, said, Judged, Event, Note, Operation, OpWord, Side}
 use Rattle.sbp_world.proofs.Words.Laws.{Host, Underway, host_at, op_ended, told_of, present_list, event_of}
 use Rattle.sbp_world.proofs.Words.World.{behind, AreUnrefused, is_refusal, is_state, names_answered, own_action, state_list, list_if, pointed_list}
@@ -17,7 +17,7 @@ use Rattle.sbp_world.proofs.Pointers.Resetting.{told_fades}
 use Rattle.sbp_world.proofs.Pointers.Naming.{none_some}
 use Rattle.sbp_world.proofs.Pointers.Showing.{neither}
 use Rattle.sbp_world.proofs.Pointers.Waits.{other}
-use Rattle.sbp_world.proofs.Common.{untrue}
+use Rattle.sbp_world.proofs.Common.{untrue, serial_is}
 
 both : (a b : Bool) → a ≡ false → b ≡ false → (a || b) ≡ false
 both true b e f = untrue (sym e)
@@ -155,10 +155,6 @@ sent_state serial generation zero to bytes past i a x n e = e
 sent_state serial generation (suc j) to bytes past i a x n e =
     by_test (nat_eq x serial) (nat_eq i j) (told_of (is_state (own_action j (event_of past)) && names_answered past (host_at past j).pointer) (present_list past j)) (state_list past x i) n
     (λ f g h. none_some (sym (ap (λ b. told_of (b && names_answered past (host_at past j).pointer) (present_list past j)) (none_acts i j (event_of past) a (let z : i ≡ j = grind (arith, nat_tests) in z))) ∙ h)) e
-
-serial_is : (p : Option ℕ) (serial : ℕ) → is_serial p serial ≡ true → p ≡ Some serial
-serial_is None serial e = untrue e
-serial_is (Some other) serial e = let same : other ≡ serial = grind (arith, nat_tests) in ap Some same
 
 pub if_so : (b : Bool) (list : Option ℕ) (n : ℕ) → list_if b list ≡ Some n → b ≡ true
 if_so true list n e = refl

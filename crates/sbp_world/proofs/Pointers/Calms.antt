@@ -4,7 +4,7 @@ use Rattle.sbp_world.proofs.Words.Wire.{LabelParts, Stale, Sent, found_sent, is_
 use Rattle.sbp_world.proofs.Words.Target.{Held, Told, NodeState, scene, expired}
 use Rattle.sbp_world.proofs.Words.Initiator.{act_step, Turn, expire_step, receive_step, see_step}
 use Rattle.sbp_world.proofs.Words.Laws.{EachMoment, event_of}
-use Rattle.sbp_world.proofs.Words.World.{Arrival, MayAt, MayReceive, MayTold, arrived, at_none, at_target, delivered, delivered_by, initiator_received, initiators_received, listed, received_at, received_by, received_step, target_received, handed_out, acted, acted_by, weight_in, see_line, target_ticks, tick_line, world_expires, initiator_expires, refused, target_expired, target_left, timed_out, timeout_line, timeout_of, asked_at, posted, sent, sent_all, sent_to, told, told_all, Scene, WorldState, initiator_at, with_initiator, with_note, with_target, behind, AreNotes, AreOthers, IsOther, history}
+use Rattle.sbp_world.proofs.Words.World.{Arrival, MayAt, MayReceive, MayTold, arrived, at_none, at_target, delivered, delivered_by, initiator_received, initiators_received, listed, received_at, received_by, received_step, target_received, handed_out, acted, acted_by, weight_in, see_line, target_ticks, tick_line, world_expires, initiator_expires, target_expired, target_left, timed_out, timeout_line, timeout_of, asked_at, posted, sent, sent_all, sent_to, told, told_all, Scene, WorldState, initiator_at, with_initiator, with_note, with_target, behind, AreNotes, AreOthers, IsOther, history}
 use Rattle.sbp_journal.specs.declared.cause.Judged.TheVariants as judgements
 use Rattle.sbp_journal.specs.declared.event.Event.TheVariants as events
 use Rattle.sbp_journal.specs.declared.note.Note.TheVariants as notes

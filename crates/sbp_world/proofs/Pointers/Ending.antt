@@ -24,7 +24,7 @@ use Rattle.sbp_world.proofs.Pointers.Resetting.{Resets, made_reset}
 use Rattle.sbp_world.proofs.Pointers.Showing.{IsShowing}
 use Rattle.sbp_world.proofs.Pointers.Statuses.{GotOr, no_drop, request_got, was_got}
 use Rattle.sbp_world.proofs.Pointers.WaitActs.{made_state as makes_state}
-use Rattle.sbp_world.proofs.Common.{untrue}
+use Rattle.sbp_world.proofs.Common.{untrue, and_first}
 
 pub other_number : (i j number : ℕ) → number ≡ i → (j == i) ≡ false → (number == j) ≡ false
 other_number i j number e f = grind (arith, nat_tests)
@@ -71,12 +71,8 @@ counts_by : (list : Option ℕ) (present : Option PresentList) → counts_for pr
 counts_by None present e = untrue e
 counts_by (Some list) present e = record { number = list; is = refl; there = e }
 
-pub first_of : (a b : Bool) → (a && b) ≡ true → a ≡ true
-first_of true b e = refl
-first_of false b e = untrue e
-
 counts_of : (list : Option ℕ) (ending : Ending) (present : Option PresentList) → state_drops list ending present ≡ true → CountsFor list present
-counts_of list (endings.Complete value) present e = counts_by list present (first_of (counts_for present list) (value == 0) e)
+counts_of list (endings.Complete value) present e = counts_by list present (and_first (counts_for present list) (value == 0) e)
 counts_of list (endings.Refused rcode) present e = untrue e
 counts_of list endings.Expired present e = untrue e
 

@@ -7,7 +7,6 @@ use Rattle.sbp_world.proofs.Words.World.{behind, Core, host_core, operation_by, 
 use Rattle.std.proofs.Common.{unwrap_or}
 use Rattle.orb_list.proofs.Tied.{may_lowest}
 use Rattle.sbp_journal.specs.declared.note.Note.TheVariants as notes
-use Rattle.sbp_journal.specs.declared.operation.Operation.TheVariants as operations
 use Rattle.sbp_initiator.proofs.Histories.Actions.{Allowed, is_ok}
 use Rattle.sbp_world.proofs.Hosts.Appends.{lowest_is}
 use Rattle.sbp_world.proofs.Hosts.Readings.{read_law}

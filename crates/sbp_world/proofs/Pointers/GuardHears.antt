@@ -3,7 +3,6 @@ use Rattle.sbp_world.proofs.Words.Std.{◌≡◌, refl, sym, ◌∙◌, ap, subs
 use Rattle.sbp_world.proofs.Words.Wire.{LabelParts, Layer, expiring_step, judging_step, seeing_step, seen_in_generation, judged_note, empty_outbox, Moment, said}
 use Rattle.sbp_world.proofs.Words.Initiator.{Purpose, InitiatorState, Turn, expire_step, receive_step, interrupted, resets_told, see_step, seen_as, is_answered, is_unwritten, Call, IsCall, after, done, lets_expire, receives, answered_after, call_answers, known_if, loses_list}
 use Rattle.sbp_world.proofs.Words.World.{IsCalled, behind, MayDrop, MayEnd, NonePoints, turn_of}
-use Rattle.sbp_journal.specs.declared.cause.Judged.TheVariants as judgements
 use Rattle.sbp_journal.specs.declared.note.Note.TheVariants as notes
 use Rattle.sbp_initiator.proofs.Histories.Effects.{list_drops}
 use Rattle.sbp_initiator.proofs.Histories.Known.{mark_law}
@@ -30,7 +29,6 @@ use Rattle.sbp_world.proofs.Pointers.Waits.{Asks, ended_asks, ended_held, judged
 use Rattle.sbp_world.proofs.Pointers.PendHears.{expire_pends, receive_pends}
 use Rattle.sbp_world.proofs.Pointers.Resetting.{ended_resets, judged_fades, note_fades, told_fades}
 use Rattle.sbp_world.proofs.Pointers.Showing.{expire_lasts, judged_present, lasts_showing, receive_lasts}
-use Rattle.sbp_world.proofs.Hosts.Knows.{seen_flag}
 use Rattle.sbp_world.proofs.Common.{untrue}
 
 -- ---- what counts as answered behind a call

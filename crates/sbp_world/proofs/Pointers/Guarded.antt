@@ -29,7 +29,6 @@ use Rattle.sbp_world.proofs.Pointers.Waits.{Asks, told_asks}
 use Rattle.sbp_world.proofs.Pointers.Passing.{IsCurrent, Stand, current_goes, judged_goes, none_goes, told_goes, told_stands}
 use Rattle.sbp_world.proofs.Pointers.Resetting.{Resets, still_resets, told_fades}
 use Rattle.sbp_world.proofs.Pointers.Showing.{IsShowing, told_present}
-use Rattle.sbp_world.proofs.Pointers.WaitActs.{none_is}
 use Rattle.sbp_world.proofs.Common.{untrue}
 
 -- Where ORB_POINTER counts as answered, the write that is named was; that is of the generation of its initiator; and each note stands as it may.

@@ -8,7 +8,6 @@ use Rattle.sbp_world.proofs.Words.World.{history_of, Run, world_after, beginning
 use Rattle.bus_transactions.proofs.Fits.{request_fits}
 use Rattle.sbp_journal.specs.declared.event.Event.TheVariants as events
 use Rattle.sbp_journal.specs.declared.note.Note.TheVariants as notes
-use Rattle.sbp_initiator.specs.declared.purpose.Pointing.TheVariants as pointings
 use Rattle.sbp_world.proofs.FitInitiator.Acts.{IfDemand, demand_fits}
 use Rattle.sbp_world.proofs.FitInitiator.Law.{fitting_law as own_fitting_law}
 use Rattle.sbp_world.proofs.FitTarget.Law.{fitting_law}

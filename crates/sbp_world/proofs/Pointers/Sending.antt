@@ -16,7 +16,7 @@ use Rattle.sbp_world.proofs.Pointers.Ages.{moment_closes}
 use Rattle.sbp_world.proofs.Pointers.Names.{pointer_same}
 use Rattle.sbp_world.proofs.Pointers.Naming.{Follows, Naming, Plain, Points, asked_plain, link_plain, none_some, not_anew, other_append, other_drop, plain, points_on}
 use Rattle.sbp_world.proofs.Pointers.Writing.{append_here, ends, plain_step, rises_by, some_is, stays_in}
-use Rattle.sbp_world.proofs.Common.{untrue, cond_off as apart, itself, least as same_or_less}
+use Rattle.sbp_world.proofs.Common.{untrue, cond_off as apart, itself, least as same_or_less, serial_is}
 
 -- ---- what a packet leaves of the name
 
@@ -32,10 +32,6 @@ pub record Sends (past : List Moment) (i serial generation to : ℕ) (bytes : Li
   pub stays : (n : ℕ) → pointer past i ≡ Some n → pointer (said (notes.Sent serial generation (suc i) to bytes) ∷ past) i ≡ Some n
   pub names : (n : ℕ) → pointer (said (notes.Sent serial generation (suc i) to bytes) ∷ past) i ≡ Some n → (pointer past i ≡ Some n) ⊎ (n ≡ serial)
   pub points : pointer (said (notes.Sent serial generation (suc i) to bytes) ∷ past) i ≡ Some serial → MayPoint past i to bytes × ((terms past).injected serial ≡ false)
-
-serial_is : (found : Option ℕ) (serial : ℕ) → is_serial found serial ≡ true → found ≡ Some serial
-serial_is None serial e = untrue e
-serial_is (Some n) serial e = let f : n ≡ serial = grind (arith, nat_tests) in ap Some f
 
 is_it : (found : Option ℕ) (serial : ℕ) → found ≡ Some serial → is_serial found serial ≡ true
 is_it found serial e = ap (λ x. is_serial x serial) e ∙ (let f : nat_eq serial serial ≡ true = grind (arith, nat_tests) in f)

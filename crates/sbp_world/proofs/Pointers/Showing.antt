@@ -1,6 +1,6 @@
 -- The list that an initiator has is the present one by its run. It stays so in a delivery and in a time-out, where a list that is dropped is told of, and as a
 -- generation is seen.
-use Rattle.sbp_world.proofs.Words.Std.{◌≡◌, refl, sym, ◌∙◌, ap, subst, ℕ, suc, ◌||◌, nat_eq, nat_lt, not, Bool, true, false, cond, List, [], ◌∷◌, ◌++◌, Option, Some, None, not-true}
+use Rattle.sbp_world.proofs.Words.Std.{◌≡◌, refl, sym, ◌∙◌, ap, subst, ℕ, suc, ◌||◌, nat_eq, nat_lt, Bool, true, false, cond, List, [], ◌∷◌, ◌++◌, Option, Some, None, not-true}
 use Rattle.sbp_world.proofs.Words.Wire.{LabelParts, Layer, seen_in_generation, seeing_step, judged_note, OutboxState, empty_outbox, Moment, said, Judged, Note, Side}
 use Rattle.sbp_world.proofs.Words.Initiator.{PresentList, ListState, free_lists, free_all_step, Purpose, Running, InitiatorState, Turn, drop_where, end_step, good_end, good_event, good_word, managed_step, moved, moves_session, response_of, then_step, expire_step, receive_step, ends_list, see_step, seen_as, is_list, Seat, Event, bad, goes}
 use Rattle.sbp_world.proofs.Words.Laws.{present_list}

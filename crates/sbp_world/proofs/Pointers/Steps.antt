@@ -69,7 +69,7 @@ pub links_apart : (ns : List Note) (i j : ℕ) → (j == i) ≡ false → AreLin
 links_apart [] i j d h = tt
 links_apart (notes.Low k n l ∷ ns) i j d h = (other_way i j k d h.0, links_apart ns i j d h.1)
 links_apart (notes.Linked k n l ∷ ns) i j d h = (other_way i j k d h.0, links_apart ns i j d h.1)
-links_apart (notes.Rung k n l ∷ ns) i j d h = (refl, links_apart ns i j d h.1)
+links_apart (notes.Rung k n l ∷ ns) i j d h = (other_way i j k d h.0, links_apart ns i j d h.1)
 links_apart (notes.Dummied k n l ∷ ns) i j d h = (other_way i j k d h.0, links_apart ns i j d h.1)
 links_apart (_ ∷ ns) i j d h = untrue h.0
 

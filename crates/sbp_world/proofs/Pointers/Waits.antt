@@ -1,6 +1,6 @@
 -- A request of an AGENT_RESET or of a read of AGENT_STATE that is under way: the bus knows it under its label, it was sent in the line of such an
 -- action, and a read that counts for a list tells of it.
-use Rattle.sbp_world.proofs.Words.Std.{arith, ◌≡◌, refl, sym, ◌∙◌, ap, ℕ, zero, suc, ◌+◌, ◌≤◌, ◌==◌, nat_eq, not, Bool, true, false, cond, List, [], ◌∷◌, Option, Some, None, nat_tests, not-true}
+use Rattle.sbp_world.proofs.Words.Std.{arith, ◌≡◌, refl, sym, ◌∙◌, ap, ℕ, zero, suc, ◌+◌, ◌≤◌, ◌==◌, nat_eq, Bool, true, false, cond, List, [], ◌∷◌, Option, Some, None, nat_tests, not-true}
 use Rattle.sbp_world.proofs.Words.Wire.{awaits, shape, shape_of, transaction, ReplyKind, Layer, state_for, Moment, asked, said, Kind, Sending, Transaction, Held, Terms, terms, waits, Judged, Action, Event, Note, Side, judged_note}
 use Rattle.sbp_world.proofs.Words.Initiator.{Purpose}
 use Rattle.sbp_world.proofs.Words.World.{behind, asked_in, state_list}

@@ -5,7 +5,7 @@ use Rattle.sbp_world.proofs.Words.Laws.{Host, host_at, list_begins, linked, lowe
 use Rattle.sbp_world.proofs.Words.World.{MayAppend, MayDrop, MayStand, begun_in}
 use Rattle.sbp_journal.specs.declared.note.Note.TheVariants as notes
 use Rattle.sbp_world.proofs.Hosts.PointerNotes.{pointer}
-use Rattle.sbp_world.proofs.Hosts.Remaining.{remains, step}
+use Rattle.sbp_world.proofs.Hosts.Remaining.{step}
 use Rattle.sbp_world.proofs.Pointers.Ages.{is_sight, moment_closes, moment_generation, seen_now}
 use Rattle.sbp_world.proofs.Pointers.Names.{append_none, drop_none}
 use Rattle.sbp_world.proofs.Pointers.Naming.{Follows, Naming, Plain, none_some, not_anew, plain_follows, plain_names, points_on}

@@ -1,13 +1,13 @@
 -- After each line of a world, and behind each delivery of one, each packet that the target sent writes blocks alone, and so does each write that an initiator got.
 use Rattle.sbp_world.proofs.Words.Std.{arith, ◌≡◌, refl, sym, subst, ℕ, suc, ◌+◌, ◌-◌, ◌==◌, nat_lt, Bool, true, false, cond, List, [], ◌∷◌, length, Option, Some, None, Result, Ok, Err, if◌then◌else◌, AllByRecursion, nat_tests}
 use Rattle.sbp_world.proofs.Words.Wire.{LabelParts, Stale, Request, id_of, node_of, topology_at, no_packet, find, OutboxState, empty_outbox, Moment, Action, Note, Outgoing, Side}
-use Rattle.sbp_world.proofs.Words.Target.{NodeState, scene, expired}
+use Rattle.sbp_world.proofs.Words.Target.{scene, expired}
 use Rattle.sbp_world.proofs.Words.Initiator.{act_step, Turn, expire_step, see_step}
 use Rattle.sbp_world.proofs.Words.Laws.{access_in_bytes}
-use Rattle.sbp_world.proofs.Words.World.{AreOthers, history, handed_out, acted, acted_by, weight_in, handed_all, initiator_learns, see_line, sees, target_learns, target_ticks, tick_line, told_seen, with_seen, at_initiator, expires, initiator_expires, refused, target_expired, target_left, timed_out, timeout_line, timeout_of, asked_for, posted, sent, sent_all, sent_to, told, told_all, WorldState, initiator_at, with_initiator, with_note, with_target, AreBlocks, IsBlockWrite}
+use Rattle.sbp_world.proofs.Words.World.{AreOthers, history, handed_out, acted, acted_by, weight_in, handed_all, initiator_learns, see_line, sees, target_learns, target_ticks, tick_line, told_seen, with_seen, at_initiator, expires, initiator_expires, target_expired, target_left, timed_out, timeout_line, timeout_of, asked_for, posted, sent, sent_all, sent_to, told, told_all, WorldState, initiator_at, with_initiator, with_note, with_target, AreBlocks, IsBlockWrite}
 use Rattle.sbp_world.proofs.Hosts.ActLeft.{act_left}
 use Rattle.sbp_world.proofs.Hosts.Hands.{second_tells, sight_tells}
-use Rattle.sbp_world.proofs.Hosts.Layered.{AreTame, expire_left}
+use Rattle.sbp_world.proofs.Hosts.Layered.{AreTame, expire_left, IsFine, others_fine, tame_fine}
 use Rattle.sbp_world.proofs.Hosts.PointSees.{see_left}
 use Rattle.sbp_world.proofs.Hosts.TargetTells as target_tell
 use Rattle.sbp_journal.specs.declared.note.Note.TheVariants as notes
@@ -25,22 +25,8 @@ B past w = AreBlocks (history w past)
 
 -- ---- what a node tells
 
-abbrev IsFine : Side → Type 0
-IsFine (sides.Own note) = is_plain note ≡ true
-IsFine _ = Unit {0}
-
-others_fine : (told : List Side) → AreOthers told → AllByRecursion IsFine told
-others_fine [] h = tt
-others_fine (sides.Own note ∷ later) h = absurd h.0
-others_fine (_ ∷ later) h = (tt, others_fine later h.1)
-
-tame_fine : (told : List Side) → AreTame told → AllByRecursion IsFine told
-tame_fine [] h = tt
-tame_fine (sides.Own note ∷ later) h = (tame_plain note h.0, tame_fine later h.1)
-tame_fine (_ ∷ later) h = absurd h.0
-
 module _ (past : List Moment) where
-  one_side : (weight : ℕ) (side : Side) (w : WorldState) → IsFine side → B past w → B past (told weight side w)
+  one_side : (weight : ℕ) (side : Side) (w : WorldState) → IsFine is_plain side → B past w → B past (told weight side w)
   unfolding told
   one_side weight (sides.Own note) w f h = plain_on note (history w past) f h
   one_side weight (sides.Opened place orb) w f h = h
@@ -58,7 +44,7 @@ module _ (past : List Moment) where
   one_side weight (sides.Unsolicited place) w f h = plain_on _ (history w past) refl h
   one_side weight (sides.Unsent place) w f h = plain_on _ (history w past) refl h
 
-  all_sides : (weight : ℕ) (told : List Side) (w : WorldState) → AllByRecursion IsFine told → B past w → B past (told_all weight told w)
+  all_sides : (weight : ℕ) (told : List Side) (w : WorldState) → AllByRecursion (IsFine is_plain) told → B past w → B past (told_all weight told w)
   unfolding told_all
   all_sides weight [] w f h = h
   all_sides weight (side ∷ later) w f h = all_sides weight later (told weight side w) f.1 (one_side weight side w f.0 h)
@@ -83,14 +69,14 @@ module _ (past : List Moment) where
   all_leave from (packet ∷ later) w f h =
       all_leave from later (sent from packet w) (λ e. (f e).1) (leaves_to (node_of w.generations from packet.to) from packet w (λ e. code_block packet.bytes (f e).0) h)
 
-  pub hands : (from weight : ℕ) (outbox : OutboxState) (w : WorldState) → AllByRecursion IsFine outbox.sides → (from ≡ 0 → AllCoded outbox.packets) → B past w → B past (handed_out from weight outbox w)
+  pub hands : (from weight : ℕ) (outbox : OutboxState) (w : WorldState) → AllByRecursion (IsFine is_plain) outbox.sides → (from ≡ 0 → AllCoded outbox.packets) → B past w → B past (handed_out from weight outbox w)
   hands from weight outbox w f g h = all_leave from outbox.packets (told_all weight outbox.sides w) g (all_sides weight outbox.sides w f h)
 
   pub target_hands : (weight : ℕ) (outbox : OutboxState) (w : WorldState) → AreOthers outbox.sides → AllCoded outbox.packets → B past w → B past (handed_out 0 weight outbox w)
-  target_hands weight outbox w f g h = hands 0 weight outbox w (others_fine outbox.sides f) (λ e. g) h
+  target_hands weight outbox w f g h = hands 0 weight outbox w (others_fine is_plain outbox.sides f) (λ e. g) h
 
   pub own_hands : (i weight : ℕ) (outbox : OutboxState) (w : WorldState) → AreTame outbox.sides → B past w → B past (handed_out (suc i) weight outbox w)
-  own_hands i weight outbox w f h = hands (suc i) weight outbox w (tame_fine outbox.sides f) (λ e. absurd (omega (arith, e))) h
+  own_hands i weight outbox w f h = hands (suc i) weight outbox w (tame_fine is_plain tame_plain outbox.sides f) (λ e. absurd (omega (arith, e))) h
 
   pub notes_on : (note : Note) (w : WorldState) → is_plain note ≡ true → B past w → B past (with_note note w)
   notes_on note w e h = plain_on note (history w past) e h

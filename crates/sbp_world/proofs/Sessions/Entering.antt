@@ -1,12 +1,13 @@
 -- A session becomes live by a status block of its target alone.
-use Rattle.sbp_world.proofs.Words.Std.{arith, ◌≡◌, ◌∙◌, refl, sym, ap, subst, ◌⊎◌, inl, inr, ℕ, ◌==◌, ◌&&◌, Bool, true, false, cond, List, [], Option, Some, None, Result, Ok, Err, nat_tests, false≢true}
+use Rattle.sbp_world.proofs.Words.Std.{arith, ◌≡◌, ◌∙◌, refl, sym, ap, subst, ◌⊎◌, inl, inr, ℕ, ◌==◌, ◌&&◌, Bool, true, false, cond, List, [], Option, Some, None, Result, Ok, Err, nat_tests}
 use Rattle.sbp_world.proofs.Words.Wire.{Header, Packet, lock, lock_response, read_block, read_block_response, read_quadlet, read_quadlet_response, write_block, write_quadlet, write_response, Finding, Layer, judging_step, of_again, of_generation, of_grammar, of_label, of_request, of_response, Judged, Operation, OutboxState, empty_outbox}
 use Rattle.sbp_world.proofs.Words.Target.{is_block}
-use Rattle.sbp_world.proofs.Words.Initiator.{Fifo, OrbFault, LoginResponse, StatusBlock, StatusKind, login_response, ListState, drop_lists, take_lists, Purpose, Running, InitiatorState, Turn, drop_where, good_end, managed_step, moved, moves_session, response_of, then_step, told, addressed, block_at, block_by, block_step, called, fifo_of, got_step, ignored_step, is_foreign, managed_for, present_for, receive_step, received, request_step, respond_step, serve_step, status_step, taken_as, ends_list, ending_of, is_orb_of, is_present_orb, status_in, Origin, Seat, Event, bad, conflict, entered, failed, from_entering, from_held, from_live, from_out, from_returning, from_stuck, goes, good, pointed, pointing, reset, sent}
+use Rattle.sbp_world.proofs.Words.Initiator.{Fifo, OrbFault, LoginResponse, StatusBlock, StatusKind, login_response, ListState, drop_lists, take_lists, Purpose, Running, InitiatorState, Turn, drop_where, good_end, managed_step, moved, moves_session, response_of, then_step, told, addressed, block_at, block_by, block_step, called, fifo_of, got_step, ignored_step, is_foreign, managed_for, present_for, receive_step, received, request_step, respond_step, serve_step, status_step, taken_as, ends_list, ending_of, is_present_orb, status_in, Origin, Seat, Event, bad, conflict, entered, failed, from_entering, from_held, from_live, from_out, from_returning, from_stuck, goes, good, pointed, pointing, reset, sent}
 use Rattle.sbp_world.proofs.Words.World.{operation_by, own_core, session_in, work_in, after, beginning, after_all, begun, initiator_at, EnteringLaw, IsAdmitted, IsGranted, SessionsEnter, joined_with, is_open}
 use Rattle.sbp_world.proofs.Hosts.Carried.{between_runs, of_runs}
 use Rattle.sbp_world.proofs.Hosts.Hosted.{Cored, cored_carried, first_cored}
 use Rattle.sbp_world.proofs.Hosts.Knowing.{Sits}
+use Rattle.sbp_world.proofs.Hosts.PresentOrbs.{present_by}
 use Rattle.initiator_base.specs.declared.fifos.Fifo.TheVariants as fifos
 use Rattle.orb_layout.specs.declared.status.StatusKind.TheVariants as kinds
 use Rattle.sbp_journal.specs.declared.cause.Cause.TheVariants as ignored
@@ -185,15 +186,6 @@ good_ends running operations.TargetReset o u s response e = inl (ap joined_with 
 good_ends running operations.AgentReset o u s response e = inl (ap joined_with (sym (drop_seat (drop_lists u.lists) o u)) ∙ e)
 good_ends running operations.State o u s response e = inl e
 good_ends running operations.Enable o u s response e = inl e
-
--- the operation that a status block is of
-record IsPresent (orb : ℕ) (operation : Option Running) (running : Running) : Type 0 where
-  is : operation ≡ Some running
-  named : is_orb_of running.managed orb ≡ true
-
-present_by : (orb : ℕ) (operation : Option Running) (running : Running) (b : Bool) → is_present_orb orb operation ≡ b → cond b operation None ≡ Some running → IsPresent orb operation running
-present_by orb operation running true f e = record { is = e; named = ap (λ (o : Option Running). is_present_orb orb o) (sym e) ∙ f }
-present_by orb operation running false f e = absurd (let differ : None ≡ Some running = e in cc)
 
 -- ---- a delivery
 module _ (s : InitiatorState) (fits : Sits (operation_by (own_core s).work) (own_core s).session) (generation : ℕ) (bytes : List ℕ) where

@@ -2,7 +2,7 @@
 use Rattle.sbp_world.proofs.Words.Std.{arith, ◌≡◌, ◌∙◌, refl, sym, ap, ℕ, zero, suc, ◌&&◌, not, nat_eq, Bool, true, false, cond, List, ◌∷◌, Option, Some, None, nat_tests}
 use Rattle.sbp_world.proofs.Words.Wire.{Moment, said, Note, Operation, OpWord, Part, Sending, part_of, request, response, Terms, terms, Action, Event}
 use Rattle.sbp_world.proofs.Words.Initiator.{LoginResponse, Answer, Done, Expired, NoLabel, Payload, Refused}
-use Rattle.sbp_world.proofs.Words.Laws.{Host, Underway, acted, answered, host_goes_on, host_at, known_host, list_begins, op_ended, operation_of, pointer_answered, ring, sent_in, stored, without_read, present_list, access_at, answer_in, answered_at, packet_at, receiver_in, event_of}
+use Rattle.sbp_world.proofs.Words.Laws.{Host, Underway, acted, host_goes_on, host_at, known_host, list_begins, op_ended, operation_of, pointer_answered, ring, sent_in, stored, present_list, access_at, answer_in, answered_at, packet_at, receiver_in, event_of}
 use Rattle.sbp_journal.specs.declared.note.Note.TheVariants as notes
 use Rattle.sbp_journal.specs.declared.operation.Operation.TheVariants as operations
 use Rattle.sbp_journal.specs.declared.operation.OpWord.TheVariants as words

@@ -1,12 +1,11 @@
 -- After each line of a world, and behind each delivery of one, the target knows caught up nodes alone, and live sessions are of generations that it has seen.
-use Rattle.sbp_world.proofs.Words.Std.{arith, ◌≡◌, ◌∙◌, refl, sym, ap, subst, ℕ, zero, suc, ◌+◌, ◌-◌, ◌<◌, ◌≤◌, nat_eq, nat_lt, Bool, true, false, cond, List, [], ◌∷◌, length, Option, Some, None, if◌then◌else◌, slice_index_or, slice_set, not-false}
+use Rattle.sbp_world.proofs.Words.Std.{arith, ◌≡◌, ◌∙◌, refl, sym, ap, subst, ℕ, zero, suc, ◌+◌, ◌-◌, ◌<◌, ◌≤◌, nat_eq, nat_lt, Bool, true, false, cond, List, [], ◌∷◌, length, Option, Some, None, if◌then◌else◌, slice_index_or, slice_set}
 use Rattle.sbp_world.proofs.Words.Wire.{Sent, found_sent, Request, end_note, judged_note, no_node, no_packet, find, Action, Event, OutboxState, empty_outbox, Moment, terms}
 use Rattle.sbp_world.proofs.Words.Target.{Disk, Told, scene, expired, received}
 use Rattle.sbp_world.proofs.Words.Initiator.{act_step, is_in_live, session_of, Seat, Turn, new_state, expire_step, receive_step}
-use Rattle.sbp_world.proofs.Words.World.{Arrival, arrived, at_target, delivered, delivered_by, initiator_received, initiators_received, marked, received_by, received_step, target_received, whole_of, with_initiators, BytesTold, handed_out, acted, acted_by, happens, weight_in, reset_line, see_line, at_initiator, delivered_if, expires, first_told, initiator_expires, inject_line, injected, injected_to, is_in_flight, lose_line, lost, may_repeat, refused, target_expired, target_left, timed_out, timeout_line, timeout_of, posted, after_all, delivered_at, delivered_next, is_settled, lowest, Scene, WorldState, begun, initiator_at, with_initiator, with_note, with_target, without_notes, IsLine}
+use Rattle.sbp_world.proofs.Words.World.{Arrival, arrived, at_target, delivered, delivered_by, initiator_received, initiators_received, marked, received_by, received_step, target_received, whole_of, with_initiators, BytesTold, handed_out, acted, acted_by, happens, weight_in, reset_line, see_line, at_initiator, delivered_if, expires, first_told, initiator_expires, inject_line, injected, injected_to, is_in_flight, lose_line, lost, may_repeat, refused, target_expired, timed_out, timeout_line, timeout_of, posted, after_all, delivered_at, delivered_next, is_settled, lowest, Scene, WorldState, begun, initiator_at, with_initiator, with_note, with_target, without_notes, IsLine}
 use Rattle.sbp_world.proofs.Hosts.Acts.{goes_on}
 use Rattle.sbp_session.specs.declared.seat.Seat.TheVariants as seats
-use Rattle.sbp_journal.specs.declared.event.Action.TheVariants as actions
 use Rattle.sbp_journal.specs.declared.event.Event.TheVariants as events
 use Rattle.sbp_journal.specs.declared.note.Note.TheVariants as notes
 use Rattle.sbp_world.specs.Packets as packets
@@ -17,7 +16,6 @@ use Rattle.sbp_world.proofs.Agents.Management.Lines.{all_heard, opens}
 use Rattle.sbp_world.proofs.Sessions.Caught.{Met, Seen, Sits, met_own, is_in, own_hands, sits_any, sits_plain, sits_relist}
 use Rattle.sbp_world.proofs.Sessions.Sessions.{acts as session_acts, expires as session_expires}
 use Rattle.sbp_world.proofs.Sessions.Turns.{delivery_met, key_met, lapse_met, own_delivery_met, own_sight_met, sight_met, tick_met}
-use Rattle.sbp_world.proofs.Common.{untrue}
 use Rattle.sbp_world.proofs.Lists.Joins.{prepared}
 use Rattle.sbp_world.proofs.Wire.Sound.{first_fits}
 

@@ -21,7 +21,6 @@ use Rattle.sbp_world.proofs.Sessions.Gears.{gear_at, is_mild, mild_gear}
 use Rattle.sbp_world.proofs.Sessions.Places.{Stand, drop_places, free_places, unpin_places}
 use Rattle.sbp_world.proofs.Common.{untrue, none_is}
 use Rattle.sbp_world.proofs.Lists.LiveMoves.{drop_operation}
-use Rattle.sbp_world.proofs.Pointers.BaseWalks.{dropped_number}
 
 -- ---- a move that ends no login carries no other response
 

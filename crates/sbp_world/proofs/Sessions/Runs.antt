@@ -14,7 +14,7 @@ use Rattle.sbp_bus.proofs.Making.{ids_size}
 use Rattle.sbp_journal.specs.declared.event.Event.TheVariants as events
 use Rattle.sbp_session.specs.declared.seat.Seat.TheVariants as seats
 use Rattle.sbp_world.proofs.FitTarget.Law.{fitting_law}
-use Rattle.sbp_world.proofs.Making.{initiators_size}
+use Rattle.sbp_world.proofs.Making.{initiators_size, ready_few}
 use Rattle.sbp_world.proofs.Wire.Found.{has_id, known_has, node_found}
 use Rattle.sbp_world.proofs.Wire.Starts.{first_id}
 use Rattle.sbp_world.proofs.Wire.ToldBytes.{happened_fits}
@@ -68,13 +68,9 @@ module _ (n : ℕ) (is_ready : Bool) (units : ℕ) (few : n ≤ 4) (line : ℕ) 
       (ap (λ (t : Topology). has_id t (0xffc1 + i)) first_seen ∙ known_has (first_topology (n + 1)) n (0xffc1 + i) (ids_size (n + 1) ∙ (let e : n + 1 ≡ suc n = omega arith in e)) (record { node = suc i; there = omega arith; id_is = sym (ap (λ (t : Topology). id_of t (suc i)) first_seen) ∙ id_is }))
       (node_found w stands 0 (omega arith) (0xffc1 + i) (record { node = suc i; there = omega arith; id_is = id_is })) (omega arith)
 
-  ready_few : (r : Bool) (i : ℕ) → i < ready_logins n r → i < n
-  ready_few true i l = l
-  ready_few false i l = absurd (omega arith)
-
   first_target : Holds (Up w.generations) w.target
   unfolding new_world
-  first_target = (fitting_law (is_up w.generations) (is_up w.generations)).begins units (ready_logins n is_ready) (λ i l. first_up i (ready_few is_ready i l))
+  first_target = (fitting_law (is_up w.generations) (is_up w.generations)).begins units (ready_logins n is_ready) (λ i l. first_up i (ready_few n is_ready i l))
 
   first_met : Met w
   first_met = record { up = first_target; sits = λ i. sits_any (Seen w.generations i) _ _ (let a = zero_seen (suc i) in let b = zero_seen 0 in omega arith) }

@@ -1,9 +1,9 @@
 -- A transaction that is under way, by what the history says, is found by its serial, and times out.
 use Rattle.sbp_world.proofs.Words.Std.{is_ok, if◌then◌else◌, arith, sym, ◌∙◌, ap, subst}
 use Rattle.sbp_world.proofs.Words.Wire.{LabelParts, LabelState, ReplyKind, expiring_step, state_for, awaits, kind_as, shape, shape_of, Node, id_for, transaction, empty_outbox, Moment, Kind, Sending, Transaction, begun_by, Held, Terms, free, rests, terms, waits, Request, id_of, topology_at, find, serial_at, request_of}
-use Rattle.sbp_world.proofs.Words.Target.{NodeState, expired}
+use Rattle.sbp_world.proofs.Words.Target.{expired}
 use Rattle.sbp_world.proofs.Words.Initiator.{expire_step}
-use Rattle.sbp_world.proofs.Words.World.{at_initiator, initiator_expires, target_expired, target_left, WorldState, initiator_at, Stands, layer_in}
+use Rattle.sbp_world.proofs.Words.World.{at_initiator, initiator_expires, target_expired, WorldState, initiator_at, Stands, layer_in}
 use Rattle.std.specs.Prelude.{◌≡◌, ◌≤◌, ◌<◌, ℕ, zero, suc, ◌-◌, ◌&&◌, nat_eq, nat_lt, Bool, true, false, List, length, Option, Some, None, refl}
 use Rattle.label_table.specs.declared.place.LabelState.TheVariants as states
 use Rattle.bus_transactions.proofs.Facts.{asked_is, begun_asked}

@@ -3,7 +3,7 @@ use Rattle.sbp_world.proofs.Words.Std.{slice_index_or, slice_set, arith, sym, �
 use Rattle.sbp_world.proofs.Words.Wire.{Moment, Topology, GenerationsState, id_of, no_topology}
 use Rattle.sbp_world.proofs.Words.Target.{NodeState}
 use Rattle.sbp_world.proofs.Words.Initiator.{InitiatorState, new_state}
-use Rattle.sbp_world.proofs.Words.World.{WorldState, with_initiator, with_target, OwnHolds, Holds, Stands}
+use Rattle.sbp_world.proofs.Words.World.{WorldState, with_target, OwnHolds, Holds, Stands}
 use Rattle.std.specs.Prelude.{◌≡◌, ◌≤◌, ◌<◌, ℕ, suc, ◌+◌, ◌%◌, ◌^◌, nat_eq, Bool, true, false, List, length, refl}
 use Rattle.std.proofs.lemmas.List.{length-set}
 use Rattle.sbp_world.proofs.Wire.Alike.{IsAlike}
@@ -135,12 +135,6 @@ own_set seen states lines i state l h c n =
       holds = λ j m. set_case (λ k s. OwnHolds (TargetOf seen k) s) states i state l h n.holds j (nat_eq j i) refl (omega arith);
       counts = λ j m. set_case (λ k (s : InitiatorState). s.counts.acts ≤ lines) states i state l c n.counts j (nat_eq j i) refl (omega arith);
     }
-
-pub with_own_holds : (w : WorldState) (lines i : ℕ) (state : InitiatorState) → i < length w.initiators → OwnHolds (TargetOf w.generations.seen i) state → state.counts.acts ≤ lines → NodesOf w lines → NodesOf (with_initiator i state w) lines
-with_own_holds w lines i state l h c n = record {
-  target_holds = n.target_holds;
-  own = own_set w.generations.seen w.initiators lines i state l h c (record { holds = λ j e m. n.own.holds j m; counts = λ j e m. n.own.counts j m });
-}
 
 -- ---- IDs have 16 bits
 small_id : (topology : Topology) (node : ℕ) → id_of topology node < 2 ^ 16

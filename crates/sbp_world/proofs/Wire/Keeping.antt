@@ -8,7 +8,7 @@ use Rattle.sbp_journal.specs.declared.event.Event.TheVariants as events
 use Rattle.sbp_laws.specs.Budget.{Lossless, budget, most_deliveries}
 use Rattle.sbp_laws.specs.Completion.{EndsSettled}
 use Rattle.sbp_world.specs.Lists.OwnLogins.{IsTame}
-use Rattle.sbp_world.specs.Wire.Keeping.{MaySettle, SettlesWhereItMay}
+use Rattle.sbp_world.specs.Wire.Keeping.{SettlesWhereItMay}
 use Rattle.sbp_world.proofs.Counting.CompletionRuns.{completion_law, entries_same}
 use Rattle.sbp_world.proofs.Lists.JoinLaws.{lines_same, moments_same}
 use Rattle.sbp_world.proofs.Lists.ListLaws.{list_laws}

@@ -1,5 +1,5 @@
 -- Deliveries one after the other, as notes: what stands behind deliveries of the lowest packets, and one delivery more.
-use Rattle.sbp_world.proofs.Words.Std.{◌≡◌, refl, sym, ◌∙◌, ap, subst, ℕ, suc, ◌+◌, true, List, [], ◌∷◌, ◌++◌, map, Some, append_assoc, arith, reverse-append, reverse-reverse, same_Some}
+use Rattle.sbp_world.proofs.Words.Std.{◌≡◌, refl, sym, ◌∙◌, ap, subst, ℕ, suc, ◌+◌, true, List, [], ◌∷◌, ◌++◌, map, Some, append_assoc, arith, reverse-append, reverse-reverse}
 use Rattle.sbp_world.proofs.Words.Wire.{Moment, said, terms, Note}
 use Rattle.sbp_world.proofs.Words.Laws.{lowest_in_flight, AreEffects, AreLowest, BeginsDelivery, IsDelivery, IsTurnOf, deliveries, delivered_by, is_effect, once_told}
 use Rattle.std.proofs.Common.{reverse}
@@ -93,7 +93,7 @@ lowest_append past (notes.Got serial ∷ one) two l m = (l.0, lowest_append (sai
 lowest_append past (notes.Ignored serial cause ∷ one) two l m = (l.0, lowest_append (said (notes.Ignored serial cause) ∷ past) one two l.1 m)
 lowest_append past (note ∷ one) two l m = (l.0, lowest_append (said note ∷ past) one two l.1 m)
 
-counts_append : (one two : List Note) → deliveries (one ++ two) ≡ deliveries one + deliveries two
+pub counts_append : (one two : List Note) → deliveries (one ++ two) ≡ deliveries one + deliveries two
 counts_append [] two = omega arith
 counts_append (notes.Got serial ∷ one) two = let e = counts_append one two in omega (arith, e)
 counts_append (notes.Ignored serial cause ∷ one) two = let e = counts_append one two in omega (arith, e)

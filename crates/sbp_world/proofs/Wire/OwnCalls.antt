@@ -2,7 +2,7 @@
 use Rattle.sbp_world.proofs.Words.Std.{◌≡◌, refl, sym, ◌∙◌, ap, subst, big_bytes}
 use Rattle.sbp_world.proofs.Words.Wire.{LabelParts, Packet, header_in, lock, read_block, read_block_response, read_quadlet, read_quadlet_response, lock_response, write_block, write_quadlet, write_response, Asked, Stale, Layer, Finding, of_generation, of_grammar, of_label, of_response, of_again, of_request, answering_step, asking_step, expiring_step, judging_step, seeing_step, Moment, Judged, Note, Operation, OpWord, OutboxState}
 use Rattle.sbp_world.proofs.Words.Target.{RomFault, SbpUnit, Tree, reading, sbp_unit_of, is_block}
-use Rattle.sbp_world.proofs.Words.Initiator.{read_step, Memory, OrbFault, StatusBlock, StatusKind, ListFault, TicketParts, SlotTable, drop_step, find_in, free_all_step, high_slots, low_slots, unpin_step, SessionEvent, bad, conflict, Fifo, Ending, Purpose, Running, InitiatorState, drop_lists, free_lists, stepped, take_lists, unpin_lists, with_slots, write_lists, ends_list, counts_for, ending_of, is_list, status_in, is_stuck_seat, Turn, ask_quad, asked_quad, conflict_for, conflict_step, doorbell_ended, drop_list_step, drop_where, dropped_as, enable_ended, end_own_for, end_own_step, end_step, ended_for, ended_step, fail_step, fault_number, finish_rom, good_end, good_event, good_word, is_address, is_conflict, known_where, managed_step, management_ended, moved, moves_session, next_quad, pointed_step, pointer_ended, quad_got, reset_ended, response_of, rom_ended, state_ended, state_told, stick_step, then_step, told, with_dead, with_rom, with_unit, with_quad, is_dead_kind, addressed, answer_of, block_at, block_by, block_step, called, expire_step, expired_as, fifo_of, got_step, ignored_step, is_foreign, managed_for, present_for, quadlet_at, read_as, receive_step, received, request_step, respond_step, responded_as, serve_step, status_step, taken_as, taken_by, written_as, all_end, freed_step, interrupted, reset_step, reset_told, resets_told, see_step, seen_as, states_end}
+use Rattle.sbp_world.proofs.Words.Initiator.{read_step, Memory, OrbFault, StatusBlock, StatusKind, ListFault, TicketParts, SlotTable, drop_step, free_all_step, unpin_step, SessionEvent, bad, conflict, Fifo, Ending, Purpose, Running, InitiatorState, drop_lists, free_lists, stepped, take_lists, unpin_lists, with_slots, write_lists, ends_list, counts_for, ending_of, is_list, status_in, is_stuck_seat, Turn, ask_quad, asked_quad, conflict_for, conflict_step, doorbell_ended, drop_list_step, drop_where, dropped_as, enable_ended, end_own_for, end_own_step, end_step, ended_for, ended_step, fail_step, fault_number, finish_rom, good_end, good_event, good_word, is_address, is_conflict, known_where, managed_step, management_ended, moved, moves_session, next_quad, pointed_step, pointer_ended, quad_got, reset_ended, response_of, rom_ended, state_ended, state_told, stick_step, then_step, told, with_dead, with_rom, with_unit, with_quad, is_dead_kind, addressed, answer_of, block_at, block_by, block_step, called, expire_step, expired_as, fifo_of, got_step, ignored_step, is_foreign, managed_for, present_for, quadlet_at, read_as, receive_step, received, request_step, respond_step, responded_as, serve_step, status_step, taken_as, taken_by, written_as, all_end, freed_step, interrupted, reset_step, reset_told, resets_told, see_step, seen_as, states_end}
 use Rattle.sbp_world.proofs.Words.World.{WorldState}
 use Rattle.std.specs.Prelude.{ℕ, ◌<◌, ◌==◌, ◌&&◌, nat_lt, Bool, true, false, cond, List, [], ◌∷◌, length, replicate, Option, Some, None, Result, Ok, Err}
 use Rattle.orb_layout.specs.declared.status.StatusKind.TheVariants as kinds

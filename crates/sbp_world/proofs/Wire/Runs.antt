@@ -6,7 +6,7 @@ use Rattle.sbp_world.proofs.Words.World.{moments_behind, new_initiators, new_wor
 use Rattle.std.specs.Prelude.{◌≡◌, ◌≤◌, ◌<◌, ℕ, suc, ◌+◌, ◌^◌, Bool, true, false, List, [], ◌∷◌, ◌++◌, length, map, replicate, refl}
 use Rattle.sbp_journal.specs.declared.event.Event.TheVariants as events
 use Rattle.sbp_bus.proofs.Making.{ids_size}
-use Rattle.sbp_world.proofs.Making.{initiators_size}
+use Rattle.sbp_world.proofs.Making.{initiators_size, ready_few}
 use Rattle.sbp_world.proofs.FitInitiator.Law.{fitting_law as own_fitting_law}
 use Rattle.sbp_world.proofs.FitTarget.Law.{fitting_law}
 use Rattle.sbp_world.specs.Wire.Lines.{RunLaw}
@@ -60,14 +60,10 @@ module _ (n : ℕ) where
 
 module _ (targets : FittingLaw) (initiators : OwnFittingLaw) where
   module _ (n : ℕ) (ready : Bool) (units : ℕ) (few : n ≤ 4) where
-    few_ready : (r : Bool) (i : ℕ) → i < ready_logins n r → i < n
-    few_ready true i l = l
-    few_ready false i l = absurd (omega arith)
-
     first_nodes : NodesOf (new_world n ready units) 0
     unfolding new_world
     first_nodes = record {
-      target_holds = (targets (target_has (first_seen n)) (target_has (first_seen n))).begins units (ready_logins n ready) (λ i l. first_known n few i (few_ready ready i l));
+      target_holds = (targets (target_has (first_seen n)) (target_has (first_seen n))).begins units (ready_logins n ready) (λ i l. first_known n few i (ready_few n ready i l));
       own = first_own n few initiators ready;
     }
 

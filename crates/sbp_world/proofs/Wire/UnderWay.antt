@@ -47,7 +47,7 @@ state_by : (layer : Node) (peer : ℕ) (label : LabelParts) (r : Result (Option 
 state_by layer peer label (Ok purpose, new) x e = (x.kind, (x.frees.serial, x.frees.was))
 state_by layer peer label (Err stale, new) x e = cc
 
-bare_ok : {P : Type 0} (r : Result (Option P) Stale × Layer P) → is_ok (bare_after bare_result r).0 ≡ is_ok r.0
+pub bare_ok : {P : Type 0} (r : Result (Option P) Stale × Layer P) → is_ok (bare_after bare_result r).0 ≡ is_ok r.0
 bare_ok (Ok purpose, new) = refl
 bare_ok (Err stale, new) = refl
 

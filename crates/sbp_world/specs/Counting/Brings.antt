@@ -1,7 +1,7 @@
 -- How much a reply brings to an agent, at each place of a history between two turns (NCITS 325-1998, command block ORB and page tables): what an agent waits for as its main
 -- transaction, of an initiator that injected no packets, brings an ORB, or the buffer of one, of no more page tables and chunks than the command has that was
 -- appended as the ORB behind those of its list that have ended; and so does an ORB that was read ahead, as its turn comes.
-use Rattle.std.specs.Prelude.{◌≡◌, ◌<◌, ℕ, List, length, Option, Some, None}
+use Rattle.std.specs.Prelude.{◌≡◌, ◌<◌, ℕ, List, Some}
 use Rattle.async_packet.specs.Labels.{LabelParts}
 use Rattle.async_packet.specs.Packet.{Packet, header_in}
 use Rattle.label_table.specs.Layer.{judging_step, of_response}
@@ -10,16 +10,11 @@ use Rattle.orb_layout.specs.Replies.{Answer}
 use Rattle.command_agent.specs.declared.step.Which.TheVariants.{Main}
 use Rattle.command_agent.specs.Making.{Brings}
 use Rattle.sbp_journal.specs.Run.{Moment}
-use Rattle.sbp_journal.specs.declared.event.Cmd.{Cmd}
-use Rattle.sbp_laws.specs.CarriedBytes.{pieces_of}
-use Rattle.sbp_laws.specs.Lists.{command_at}
-use Rattle.sbp_laws.specs.Terms.{ends}
 use Rattle.sbp_target.specs.declared.purpose.Purpose.TheVariants as purposes
 use Rattle.sbp_target.specs.Desks.{which_in}
 use Rattle.sbp_target.specs.Nodes.{desk_at}
 use Rattle.sbp_target.specs.Receiving.{answer_in}
 use Rattle.sbp_world.specs.Counting.Rooms.{chunks_of, elements_of, present_command}
-use Rattle.sbp_world.specs.Telling.{holder}
 use Rattle.sbp_world.specs.Worlds.{WorldState}
 use Rattle.sbp_world.specs.Lists.Along.{AreAlong}
 use Rattle.sbp_world.specs.Lists.Closes.{Always, WhereTameOrFew}

@@ -18,10 +18,8 @@ use Rattle.sbp_target.specs.Receiving.{received}
 use Rattle.sbp_target.specs.Requests.{requests}
 use Rattle.sbp_world.specs.Delivering.{delivered, whole_of}
 use Rattle.sbp_world.specs.FitTarget.{BytesTold}
-use Rattle.sbp_world.specs.Runs.{Run, after, beginning}
-use Rattle.sbp_world.specs.Settling.{MayAll, after_all}
-use Rattle.sbp_world.specs.Worlds.{Scene, WorldState, begun, initiator_at}
-use Rattle.sbp_world.specs.Hosts.Runs.{IsRun}
+use Rattle.sbp_world.specs.Runs.{after}
+use Rattle.sbp_world.specs.Worlds.{Scene, WorldState, initiator_at}
 
 -- ---- the weight of a packet
 -- how many requests the target may come to send for a request, where its write of MANAGEMENT_AGENT counts or not

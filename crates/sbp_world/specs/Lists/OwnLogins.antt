@@ -1,6 +1,6 @@
 -- The logins that the target has, where no initiator injected packets (NCITS 325-1998, login): each has a FIFO of a login, which is in no window of its initiator and
 -- no FIFO of a place of management.
-use Rattle.std.specs.Prelude.{◌≡◌, ◌<◌, ◌≤◌, ◌+◌, ◌*◌, ◌^◌, ℕ, true, List, Some}
+use Rattle.std.specs.Prelude.{◌≡◌, ◌<◌, ◌+◌, ◌*◌, ◌^◌, ℕ, true, List, Some}
 use Rattle.bus_memory.specs.declared.window.Window.TheVariants as windows
 use Rattle.bus_memory.specs.Windows.{start}
 use Rattle.login_table.specs.declared.login.Login.{Login}

@@ -25,8 +25,8 @@ use Rattle.orb_layout.specs.Pointers.{IsPointer, pointer_at}
 use Rattle.orb_layout.specs.CommandOrbs.{command_orb}
 use Rattle.orb_layout.specs.Replies.{Answer, payload_of, write_failure}
 use Rattle.sbp_world.specs.FitTarget.{BytesTold, FitsAgent}
-use Rattle.sbp_world.proofs.FitTarget.Agents.{BytesIn, BytesRead, FitsAsk, FitsStep, aligned_fits, checked_on, failed, new_fits, orb_fits, payload_bytes, pointer_fits, reply_fits, reset_fits}
-use Rattle.bus_transactions.proofs.Fits.{no_bytes, put_or}
+use Rattle.sbp_world.proofs.FitTarget.Agents.{BytesIn, BytesRead, FitsAsk, FitsStep, aligned_fits, checked_on, failed, orb_fits, payload_bytes, pointer_fits, reply_fits, reset_fits, told_bytes}
+use Rattle.bus_transactions.proofs.Fits.{put_or}
 use Rattle.unordered_agent.specs.declared.fetcher.FetchPhase.{FetchPhase}
 use Rattle.unordered_agent.specs.declared.fetcher.FetchPhase.TheVariants as phases
 use Rattle.unordered_agent.specs.declared.fetcher.Fetcher.{Fetcher}
@@ -127,9 +127,6 @@ quiet_fits : (s : TaskMachine) → FitsTasks s → FitsTaskStep (quiet, s)
 quiet_fits s h = record { asks = tt; agent = h }
 
 -- ---- the ORB that was read begins
-told_bytes : (told : Option Told) → BytesTold told → AreBytes (told_or told).answer
-told_bytes None b = no_bytes
-told_bytes (Some told) b = b
 
 begun_fits : (m : Machine) (place : ℕ) (plain : PlainDisk) (told : Told) (read : Result (List ℕ) FailCause) → AreBytes told.answer → BytesRead read → FitsAgent m → FitsStep (tasks.begun m place plain told read)
 begun_fits m place plain told (Err cause) t b a = failed m cause a
@@ -266,6 +263,3 @@ rings_fit s h = rings (state_in s.fetcher.phase) s h
 pub resets_fit : (s : TaskMachine) → FitsTasks s → FitsTasks (reset_all_step s)
 unfolding reset_all_step
 resets_fit s h = record { fetcher = record { orb = h.fetcher.orb; next = h.fetcher.next }; tasks = map_fits reset_step reset_fits s.tasks h.tasks }
-
-pub new_agent_fits : (place : ℕ) → FitsAgent new_machine
-new_agent_fits place = new_fits

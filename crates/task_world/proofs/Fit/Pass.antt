@@ -111,10 +111,6 @@ module _ (T : Side → Type 0) (known : ℕ → Type 0) (P : Said) where
   abbrev Of : Layer TaskPurpose → OutboxState → Type 0
   Of l o = P l o.packets o.sides
 
-  pub pick : (b : Bool) (x y : Scene) → In known P x → In known P y → In known P (cond b x y)
-  pick true x y h i = h
-  pick false x y h i = i
-
   -- ---- what gives transactions up
   module _ (k : Leaves T known P) where
     ran_at : (l : Layer TaskPurpose) (place : Option ℕ) (m : TaskMachine) (x : Option Outcome) (o : OutboxState) → ((outcome : Outcome) → x ≡ Some outcome → (orb : ℕ) (cdb payload : List ℕ) → T (sides.Ran 0 orb cdb payload outcome)) → Of l o → Of l (tell_ran place m x o)

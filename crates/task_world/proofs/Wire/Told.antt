@@ -1,6 +1,6 @@
 -- What the node of a task world hands out is effects, of each delivery and of each time-out: one note, and behind it effects.
 use Rattle.sbp_world.proofs.Words.Std.{if◌then◌else◌, is_ok, ◌≡◌, ◌∙◌, refl, sym, ap, subst, ℕ, ◌-◌, ◌==◌, nat_lt, nat_eq, Bool, true, false, List, length, Option, Some, Result, Ok, Err}
-use Rattle.sbp_world.proofs.Words.Wire.{Stale, Sent, found_sent, Judged, Layer, Node, expiring_step, Moment, OutboxState, Request, empty_outbox, bare, bare_after, bare_result}
+use Rattle.sbp_world.proofs.Words.Wire.{Stale, Sent, found_sent, Judged, Layer, Node, expiring_step, Moment, OutboxState, Request, empty_outbox, bare}
 use Rattle.bus_transactions.proofs.Bares.{takes_steps}
 use Rattle.rbc_disk.specs.Disk.{disk_at}
 use Rattle.rbc_disk.specs.Held.{Held}
@@ -13,7 +13,7 @@ use Rattle.sbp_world.proofs.Wire.Effects.{AreOtherSides, others_effects}
 use Rattle.sbp_world.proofs.Wire.Holding.{KnownTo}
 use Rattle.sbp_world.proofs.Wire.OwnHears.{ours}
 use Rattle.sbp_world.proofs.Wire.Turns.{Arrives, Delivered, Ends, at_target_arrives, delivered_is, ends_at_initiator, initiator_arrives, is_inside}
-use Rattle.sbp_world.proofs.Wire.UnderWay.{at_target_is, target_ok}
+use Rattle.sbp_world.proofs.Wire.UnderWay.{at_target_is, target_ok, bare_ok}
 use Rattle.sbp_world.specs.declared.parts.delivering.Arrival.{Arrival}
 use Rattle.sbp_world.specs.Delivering as worlds
 use Rattle.sbp_world.specs.Packets as packets
@@ -95,10 +95,6 @@ module _ {past : List Moment} {lines : ℕ} (w : TaskWorldState) (sound : SoundW
   ends = pick_ends (request.node == 0)
 
   -- it is under way at the node where it is so at the seat
-  bare_ok : {P : Type 0} (r : Result (Option P) Stale × Layer P) → is_ok (bare_after bare_result r).0 ≡ is_ok r.0
-  bare_ok (Ok purpose, new) = refl
-  bare_ok (Err stale, new) = refl
-
   layer_ok : {P : Type 0} (layer : Layer P) → is_ok (expiring_step (bare layer) request.peer request.label).0 ≡ is_ok (expiring_step layer request.peer request.label).0
   layer_ok {P} layer =
       ap (λ (r : Result (Option (Unit {0})) Stale × Layer (Unit {0})). is_ok r.0) ((takes_steps P).expires layer request.peer request.label) ∙ bare_ok (expiring_step layer request.peer request.label)

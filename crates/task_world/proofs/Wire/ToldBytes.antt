@@ -1,5 +1,6 @@
 -- What the commands of a line of `tasks` told is bytes, as the line's own condition on it says.
-use Rattle.sbp_world.proofs.Words.Std.{AllByRecursion, ◌≡◌, ◌∙◌, refl, sym, ap, subst, ℕ, ◌<◌, ◌==◌, ◌&&◌, nat_eq, nat_lt, Bool, true, false, cond, List, [], ◌∷◌, Option, Some, None, Result, Ok, Err, IfSome, slice_index}
+use Rattle.sbp_world.proofs.Common.{and_second}
+use Rattle.sbp_world.proofs.Words.Std.{AllByRecursion, ◌≡◌, ◌∙◌, refl, sym, ap, subst, ℕ, ◌<◌, ◌==◌, nat_eq, nat_lt, Bool, true, false, cond, List, [], ◌∷◌, Option, Some, None, Result, Ok, Err, IfSome, slice_index}
 use Rattle.sbp_world.proofs.Words.Wire.{LabelParts, header_in, Finding, of_generation, of_grammar, of_label, of_response, of_again, of_request, Sent, found_sent, Event}
 use Rattle.command_agent.specs.declared.step.Which.TheVariants.{Main}
 use Rattle.command_agent.specs.Machine.{is_under_way}
@@ -75,10 +76,6 @@ module _ (told : Option Told) (place : ℕ) (answer : Answer) (s : Stage) (befor
   tells_fit : BytesTold told
   tells_fit = fits_at (about s.node.agent place) refl t.bytes
 
-both_true : (a b : Bool) → (a && b) ≡ true → b ≡ true
-both_true true b e = e
-both_true false b e = cc
-
 by_fits : (told : Option Told) (place : ℕ) (answer : Answer) (login : Option Login) (is_awaited : Bool) (s : Stage) (before now : ℕ) → (is_awaited ≡ true → is_busy place s.node.agent ≡ true) → TellsBy told place answer login is_awaited s before now → BytesTold told
 by_fits told place answer (Some login) true s before now busy t = tells_fit told place answer s before now (busy refl) t
 by_fits told place answer (Some login) false s before now busy t = none_fits told t.so
@@ -88,7 +85,7 @@ at_fits : (told : Option Told) (purpose : Option TaskPurpose) (peer : ℕ) (labe
 at_fits told None peer label answer w before now t = none_fits told t.so
 at_fits told (Some purpose) peer label answer w before now t =
     by_fits told purpose.place answer (served_login w.node) (awaits w.node purpose.place peer label) (stage w.node w.disk) before now
-    (both_true (is_that (sent_at w.node purpose.place) peer label) (is_busy purpose.place w.node.agent)) t
+    (and_second (is_that (sent_at w.node purpose.place) peer label) (is_busy purpose.place w.node.agent)) t
 
 in_fits : (told : Option Told) (found : Finding TaskPurpose) (w : Whole) (before now : ℕ) → TellsIn told found w before now → BytesTold told
 in_fits told (of_response p label purpose) w before now t = at_fits told purpose (header_in p).source label (answer_in p) w before now t

@@ -9,7 +9,7 @@ use Rattle.sbp_world.proofs.FitInitiator.Law.{fitting_law as own_fitting_law}
 use Rattle.sbp_journal.specs.declared.event.Event.TheVariants as events
 use Rattle.target_base.proofs.Making.{rom_size}
 use Rattle.sbp_bus.proofs.Making.{ids_size}
-use Rattle.sbp_world.proofs.Making.{initiators_size}
+use Rattle.sbp_world.proofs.Making.{initiators_size, ready_few}
 use Rattle.sbp_world.proofs.FitTarget.Law.{fitting_law}
 use Rattle.sbp_world.proofs.Wire.Found.{known_has}
 use Rattle.sbp_world.proofs.Wire.Holding.{NodesOf, TargetOf, of_target, own_has, seen_at, state_at, target_has}
@@ -27,10 +27,6 @@ module _ (n : ℕ) (ready : Bool) (units : ℕ) (few : n ≤ 4) where
   id_at : (node k : ℕ) → node ≤ n → k ≤ n → id_of (seen_at first_seen node) k ≡ local_id k
   id_at node k l m = ap (λ t. id_of t k) (seen_is node l) ∙ sym (first_id (n + 1) k (omega arith) (omega arith))
 
-  few_ready : (r : Bool) (i : ℕ) → i < ready_logins n r → i < n
-  few_ready true i l = l
-  few_ready false i l = absurd (omega arith)
-
   no_acts : (number : ℕ) (r : Bool) → (new_state number r).counts.acts ≡ 0
   unfolding new_state
   no_acts number true = refl
@@ -42,7 +38,7 @@ module _ (n : ℕ) (ready : Bool) (units : ℕ) (few : n ≤ 4) where
       let size = initiators_size n ready in
       record {
         target_holds = (fitting_law (target_has first_seen) (target_has first_seen)).begins units (ready_logins n ready) (λ i l.
-            let there = few_ready ready i l in
+            let there = ready_few n ready i l in
             known_has (seen_at first_seen 0) n (0xffc1 + i) (ap (λ (t : Topology). length t.ids) (seen_is 0 (omega arith)) ∙ ids_size (n + 1) ∙ omega arith)
             (record { node = suc i; there = omega (arith, there); id_is = id_at 0 (suc i) (omega arith) (omega (arith, there)) ∙ (let e : 65472 + suc i ≡ 0xffc1 + i = omega arith in e) }));
         own = record {

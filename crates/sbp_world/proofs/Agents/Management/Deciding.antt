@@ -1,7 +1,7 @@
 -- A decision of the management agent changes the table of logins as its notes do, by the ORB that it was made on.
 use Rattle.sbp_world.proofs.Words.Std.{◌≡◌, ◌∙◌, refl, sym, ap, subst, ℕ, ◌+◌, ◌*◌, ◌^◌, ◌==◌, ◌&&◌, nat_eq, not, Bool, true, false, cond, List, map, set, Option, Some, None, Result, Ok, Err, arith, is_none, position, nat_tests, quad}
 use Rattle.sbp_world.proofs.Words.Wire.{FunctionWord, function_word, login_if}
-use Rattle.sbp_world.proofs.Words.Target.{Entered, Login, LoginRefusal, IsSound, Table, back_step, enter_step, entered, find, id_at, id_of, is_held, is_live, is_live_of, is_old, leave_step, left_for, place_at, revived, Decision, Effect, ManagerStep, Function, Operation, asked_by, back_decided, decide, decide_function, effect_of, key_at, lacks_key, left_decided, live_login, login_decided, on_login, reads_eui, unit_exists, with_status, beside, decide_step, decided_as, eui_step, high_eui_at, high_got, low_got, orb_got, reply_in, reply_to, response_written, status_written, function_of, number_of, status_of}
+use Rattle.sbp_world.proofs.Words.Target.{Entered, Login, LoginRefusal, IsSound, Table, back_step, enter_step, find, id_at, id_of, is_held, is_live, is_live_of, is_old, leave_step, left_for, place_at, revived, Decision, Effect, ManagerStep, Function, Operation, asked_by, back_decided, decide, decide_function, effect_of, key_at, lacks_key, left_decided, live_login, login_decided, on_login, reads_eui, unit_exists, with_status, beside, decide_step, decided_as, eui_step, high_eui_at, high_got, low_got, orb_got, reply_in, reply_to, response_written, status_written, function_of, number_of, status_of}
 use Rattle.sbp_world.proofs.Words.Initiator.{FailCause, ManagementOrb, management_orb, Answer, payload_of, write_failure}
 use Rattle.sbp_world.proofs.Words.Laws.{Decided, at_id, decided_by, decided_in, keep_decided}
 use Rattle.sbp_world.proofs.Words.World.{Office, by_managed, by_note, placed}

@@ -4,7 +4,7 @@ use Rattle.sbp_world.proofs.Words.Wire.{Access, Register, Start, agent_reset, ag
 use Rattle.sbp_world.proofs.Words.Target.{Ahead, Main, Busy, Disk}
 use Rattle.sbp_world.proofs.Words.Initiator.{Ask, Answer, Expired, offset_at}
 use Rattle.sbp_world.proofs.Words.Laws.{answered_at, receiver_in, sender_in, Agent, Purpose, Target, for_agent, for_manager, got_by, is_serial, known_at, manager_step, over, purpose_among, register_got, replied, replied_to, request_got, reset_seen, start_got, started_by, target_at, target_by}
-use Rattle.sbp_world.proofs.Words.World.{Office, at_rest, cleared, office_of, office_replied, started, stepped, ticked}
+use Rattle.sbp_world.proofs.Words.World.{Office, at_rest, cleared, office_of, office_replied, started, ticked}
 use Rattle.mgmt_agent.specs.Machine as manager
 use Rattle.sbp_journal.specs.declared.note.Note.TheVariants as notes
 use Rattle.sbp_world.specs.Agents.Management.Offices as offices

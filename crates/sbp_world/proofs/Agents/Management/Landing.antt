@@ -42,11 +42,11 @@ use Rattle.sbp_world.proofs.Agents.Management.Turning.{KeepsWire, calm_turn, wir
 use Rattle.sbp_world.proofs.Agents.CrewFirsts.{current_by}
 
 -- what a request asks for
-record AccessIs (p : Packet) : Type 0 where
-  access : Access
-  is : access_of p ≡ Some access
+pub record AccessIs (p : Packet) : Type 0 where
+  pub access : Access
+  pub is : access_of p ≡ Some access
 
-access_there : (p : Packet) → reply_kind p ≡ None → AccessIs p
+pub access_there : (p : Packet) → reply_kind p ≡ None → AccessIs p
 access_there (write_quadlet header offset value) e = record { access = record { is_lock = false; is_write = true; is_block = false; offset = offset; count = 4; payload = [] }; is = refl }
 access_there (write_block header offset payload) e = record { access = record { is_lock = false; is_write = true; is_block = true; offset = offset; count = length payload; payload = payload }; is = refl }
 access_there (write_response header rcode) e = absurd (some_not e)
@@ -94,7 +94,7 @@ pub start_asks : (o : Office) (source orb : ℕ) → o.manager.operation ≡ Non
 unfolding management.start_step
 start_asks o source orb e small = started_asks o.manager source orb o e small
 
-one_passed : (start : List Disk) (past : List Moment) (packet : Outgoing) (number : ℕ) (kind : Kind) → part_of packet.bytes ≡ response number kind → PassedOver start past (packet ∷ [])
+pub one_passed : (start : List Disk) (past : List Moment) (packet : Outgoing) (number : ℕ) (kind : Kind) → part_of packet.bytes ≡ response number kind → PassedOver start past (packet ∷ [])
 unfolding sent_all
 one_passed start past packet number kind e v i = response_term start past v i packet number kind e
 

@@ -1,7 +1,7 @@
 -- The end of a turn of the management operation: its terms are again its state.
 use Rattle.sbp_world.proofs.Words.Std.{arith, ◌≡◌, ◌∙◌, refl, sym, ap, subst, ℕ, ◌+◌, ◌^◌, ◌<◌, true, false, List, [], ◌∷◌, Option, Some, None}
 use Rattle.sbp_world.proofs.Words.Wire.{LabelParts, AreBytes, FitsRequest, SerialsCount, AreSent, Asked, ReplyKind, Layer, Moment, terms, Outgoing, OutboxState, GenerationsState, node_of}
-use Rattle.sbp_world.proofs.Words.Target.{source_in, Disk, Purpose, NodeState, scene, request_packet, TransactionLaw}
+use Rattle.sbp_world.proofs.Words.Target.{Disk, Purpose, NodeState, scene, request_packet, TransactionLaw}
 use Rattle.sbp_world.proofs.Words.Laws.{wants}
 use Rattle.sbp_world.proofs.Words.World.{handed_out, sent, sent_all, told_all, WorldState, Agrees, Office, by_sides, office_of, IsManagementAt}
 use Rattle.mgmt_agent.specs.Machine as management

@@ -1,7 +1,7 @@
 -- What the management agent does at a reply: its notes change the office as its step does the node, and at most one request leaves for it.
 use Rattle.sbp_world.proofs.Words.Std.{◌≡◌, ◌∙◌, refl, sym, ap, subst, ℕ, zero, suc, ◌+◌, ◌==◌, nat_lt, is_some, Bool, true, false, cond, List, [], ◌∷◌, ◌++◌, length, Option, Some, None, Result, Ok, Err}
 use Rattle.sbp_world.proofs.Words.Wire.{CutCause, Outgoing, Side, OutboxState}
-use Rattle.sbp_world.proofs.Words.Target.{Table, Decision, Effect, ManagerStep, Operation, decide, reads_eui, cut, told_cut, clear_one, cut_placed, node_decided, effect_by, failed_by, place_in, tell_left, NodeState, Scene, desk_at, login_at, scene, with_side, clear_from, clear_unit, cut_all, cut_at, cut_from, is_cut, state_in, is_reset}
+use Rattle.sbp_world.proofs.Words.Target.{Table, Decision, Effect, ManagerStep, Operation, decide, reads_eui, cut, clear_one, cut_placed, node_decided, effect_by, failed_by, place_in, tell_left, NodeState, Scene, desk_at, login_at, scene, with_side, clear_from, clear_unit, cut_all, cut_at, cut_from, is_cut, state_in, is_reset}
 use Rattle.sbp_world.proofs.Words.Initiator.{FailCause, ManagementOrb, management_orb, Answer, payload_of, write_failure}
 use Rattle.sbp_world.proofs.Words.World.{Office, by_side, by_sides}
 use Rattle.mgmt_agent.specs.declared.decision.Effect.TheVariants as effects
@@ -17,6 +17,7 @@ use Rattle.sbp_world.proofs.Agents.Management.Calm.{AreQuiet, Calm, From, IsQuie
 use Rattle.sbp_world.proofs.Agents.Management.Deciding.{by_decision, by_effect}
 use Rattle.sbp_world.specs.Agents.Management.Offices.{failed}
 use Rattle.sbp_world.proofs.Agents.Management.Sides.{AllBehind, TellsBehind, behind_more, sides_more}
+use Rattle.sbp_target.proofs.Requests.Effects.{cut_packets}
 
 -- ---- what is told, and what it makes of an office
 
@@ -53,13 +54,9 @@ quiet_says (side ∷ later) o q =
 
 -- ---- cuts and cleared units let no packet leave
 
-pub cut_by : (b : Bool) (place : ℕ) (cause : CutCause) (o : OutboxState) → (told_cut b place cause o).packets ≡ o.packets
-cut_by true place cause o = refl
-cut_by false place cause o = refl
-
 cut_sends : (cause : CutCause) (place : ℕ) (s : Scene) → (cut cause place s).outbox.packets ≡ s.outbox.packets
 unfolding cut
-cut_sends cause place s = cut_by (is_reset (state_in (desk_at s.node place).agent.phase)) place cause s.outbox
+cut_sends cause place s = cut_packets (is_reset (state_in (desk_at s.node place).agent.phase)) place cause s.outbox
 
 sends_if : (b : Bool) (x y : Scene) (packets : List Outgoing) → x.outbox.packets ≡ packets → y.outbox.packets ≡ packets → (cond b x y).outbox.packets ≡ packets
 sends_if true x y packets p q = p
@@ -86,10 +83,6 @@ clears_send (suc left) unit s = clears_send left (unit + 1) (clear_unit unit s)
 one_clear_sends : (unit : ℕ) (s : Scene) → (clear_one unit s).outbox.packets ≡ s.outbox.packets
 unfolding clear_unit
 one_clear_sends unit s = sends_if (nat_lt unit (length s.node.units)) (clear_unit unit s) s s.outbox.packets refl refl
-
-pub left_sends : (x : Option ℕ) (o : OutboxState) → (tell_left x o).packets ≡ o.packets
-left_sends None o = refl
-left_sends (Some login) o = refl
 
 -- ---- a step up to what it asks for
 

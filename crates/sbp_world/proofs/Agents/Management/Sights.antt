@@ -1,5 +1,5 @@
 -- The target sees a generation, a second passes, a unit gets a key: the terms of the target's management stay its state.
-use Rattle.sbp_world.proofs.Words.Std.{arith, ◌≡◌, ◌∙◌, refl, sym, ap, subst, ℕ, zero, suc, ◌-◌, ◌<◌, ◌≤◌, not, nat_eq, nat_lt, Bool, true, false, cond, List, ◌∷◌, length, None, if◌then◌else◌, slice_set, nat_tests}
+use Rattle.sbp_world.proofs.Words.Std.{arith, ◌≡◌, ◌∙◌, refl, sym, ap, subst, ℕ, zero, suc, ◌-◌, ◌<◌, ◌≤◌, nat_eq, nat_lt, Bool, true, false, cond, List, ◌∷◌, length, None, if◌then◌else◌, slice_set}
 use Rattle.sbp_world.proofs.Words.Wire.{Node, Layer, seeing_step, seen_in_generation, empty_outbox, Moment, asked, said, Terms, terms, id_of}
 use Rattle.sbp_world.proofs.Words.Target.{source_in, Disk, Purpose, NodeState, Scene, scene, reset_by, seen, ticked, with_key, Call, after, sees_call, sets_key, ticks}
 use Rattle.sbp_world.proofs.Words.Initiator.{Nothing, Turn, see_step}
@@ -25,7 +25,7 @@ use Rattle.sbp_world.proofs.Agents.Management.Passing.{Keeping, awaits_kept, kee
 use Rattle.sbp_world.proofs.Agents.Management.Resting.{Rested, second_rests, seen_first, sight_rests}
 use Rattle.sbp_world.proofs.Agents.Management.Still.{Still, hist}
 use Rattle.sbp_world.proofs.Agents.Management.Told.{office_in}
-use Rattle.sbp_world.proofs.Agents.CrewSights.{flag_by}
+use Rattle.sbp_world.proofs.Hosts.Knows.{seen_flag, seen_test}
 
 -- ---- a call that asks for nothing: what it tells, and what it is then
 module _ (units ready : ℕ) (start : List Disk) where
@@ -64,23 +64,12 @@ module _ (units ready : ℕ) (start : List Disk) where
           subst (λ y. Awaits (terms (hist later last)) x.node.layer y (office_in start later last).manages) (sym (ap (λ (y : Machine). source_in y.operation) m ∙ ap source_in operation))
           (ap (λ (o : Office). o.manages) same ∙ r.manages ∙ manages)
 
-pub seen_test : (l g t : ℕ) → l ≤ g → t ≡ l → not (nat_eq g t) ≡ nat_lt l g
-seen_test l g t a e = by_case (nat_lt l g) refl
-  where
-    by_case : (b : Bool) → nat_lt l g ≡ b → not (nat_eq g t) ≡ nat_lt l g
-    by_case true f = let z : nat_eq g t ≡ false = grind (arith, nat_tests) in ap not z ∙ sym f
-    by_case false f = let z : nat_eq g t ≡ true = grind (arith, nat_tests) in ap not z ∙ sym f
-
 same_generation : (l g t : ℕ) → l ≤ g → t ≡ l → nat_lt l g ≡ false → g ≡ t
 same_generation l g t a e f = grind arith
 
 layer_by : (b : Bool) (x y : Layer Purpose) → b ≡ false → (cond {A = Bool × Layer Purpose} b (true, x) (false, y)).1 ≡ y
 layer_by true x y e = absurd (let no : true ≡ false = e in cc)
 layer_by false x y e = refl
-
-step_flag : (layer : Layer Purpose) (g id : ℕ) → (seeing_step layer g id).0 ≡ nat_lt layer.generation g
-unfolding seeing_step
-step_flag layer g id = flag_by (nat_lt layer.generation g) (seen_in_generation layer g id) layer
 
 step_layer : (layer : Layer Purpose) (g id : ℕ) → nat_lt layer.generation g ≡ false → (seeing_step layer g id).1 ≡ layer
 unfolding seeing_step
@@ -93,7 +82,7 @@ old_layer (false, layer) s e = refl
 seen_layer : (g id : ℕ) (node : NodeState) → nat_lt node.layer.generation g ≡ false → (seen g id (scene node empty_outbox)).1.node.layer ≡ node.layer
 unfolding seen
 seen_layer g id node e =
-    old_layer (seeing_step node.layer g id) (scene node empty_outbox) (step_flag node.layer g id ∙ e) ∙ step_layer node.layer g id e
+    old_layer (seeing_step node.layer g id) (scene node empty_outbox) (seen_flag node.layer g id ∙ e) ∙ step_layer node.layer g id e
 
 seen_same : (b : Bool) (o : Office) → cond b (cleared o) o ≡ seen_first b o
 seen_same true o = refl
@@ -195,15 +184,15 @@ module _ (units ready : ℕ) (has : 0 < units) (start : List Disk) where
     sight_is : office_in start past sight_world ≡ sight_first
     sight_is =
         sight_office start (hist past w) now
-        ∙ ap (λ b. cond b (cleared o) o) (seen_test w.target.layer.generation now (t.generation 0) ages.below ages.same ∙ sym (step_flag w.target.layer now own_id))
+        ∙ ap (λ b. cond b (cleared o) o) (seen_test w.target.layer.generation now (t.generation 0) ages.below ages.same ∙ sym (seen_flag w.target.layer now own_id))
         ∙ seen_same (seeing_step w.target.layer now own_id).0 o
 
     sight_passes : (b : Bool) → nat_lt w.target.layer.generation now ≡ b → Passes units ready start t (terms (hist past sight_world)) sight_first (office_in start past w) w.target seen_by_target.node
     sight_passes true e =
-        let flag = step_flag w.target.layer now own_id ∙ e in
+        let flag = seen_flag w.target.layer now own_id ∙ e in
         ends (ap (λ b. (seen_first b o).manager.operation) flag) (ap (λ b. (seen_first b o).manages) flag)
     sight_passes false e =
-        let flag = step_flag w.target.layer now own_id ∙ e in
+        let flag = seen_flag w.target.layer now own_id ∙ e in
         stays (record { generation = same_generation w.target.layer.generation now (t.generation 0) ages.below ages.same e; ids = λ peer. refl; held = λ x kind s r f. f })
         (ap (λ b. (seen_first b o).manager) flag) (ap (λ b. (seen_first b o).manages) flag) (seen_layer now own_id w.target e)
 

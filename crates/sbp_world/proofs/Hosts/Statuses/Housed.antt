@@ -19,7 +19,6 @@ use Rattle.sbp_world.proofs.Hosts.Passes.{judged_apart}
 use Rattle.sbp_world.proofs.Hosts.Shown.{IsHeard}
 use Rattle.sbp_world.proofs.Hosts.Statuses.Blocks.{is_read_by}
 use Rattle.sbp_world.proofs.Hosts.Statuses.Hearing.{ignored_silent}
-use Rattle.sbp_world.proofs.Hosts.HostRows.{host_sees}
 use Rattle.sbp_world.proofs.Sessions.BlockNotes.{gets_sent as sent_stays}
 
 -- ---- notes of others

@@ -1,5 +1,6 @@
 -- An ORB that waits in a slot waits by the run terms, and its slot is the one that they name.
-use Rattle.sbp_world.proofs.Words.Std.{arith, ◌≡◌, refl, ◌∙◌, ap, subst, ℕ, ◌<◌, ◌&&◌, nat_lt, Bool, true, false, List, Option, Some, None, nat_tests}
+use Rattle.sbp_world.proofs.Common.{all_three}
+use Rattle.sbp_world.proofs.Words.Std.{arith, ◌≡◌, ◌∙◌, ap, subst, ℕ, ◌<◌, nat_lt, true, List, Option, Some, None, nat_tests}
 use Rattle.sbp_world.proofs.Words.Wire.{Moment}
 use Rattle.sbp_world.proofs.Words.Initiator.{PresentList, SlotState, SlotTable, slot_in, waiting, waits_by, TicketParts}
 use Rattle.sbp_world.proofs.Words.Laws.{is_list, is_none_taken, prepared_in, present_list, slot_at, taken_at, waits_in, appends}
@@ -7,12 +8,6 @@ use Rattle.sbp_world.proofs.Words.World.{AreRows, IfLast, LastFits, StateFits, n
 use Rattle.orb_list.specs.declared.slot.SlotState.TheVariants as states
 use Rattle.orb_list.proofs.Tied.{waits_last}
 use Rattle.sbp_world.specs.Hosts.Fits.{IsOf}
-
-pub all_three : (a b c : Bool) → a ≡ true → b ≡ true → c ≡ true → (a && b && c) ≡ true
-all_three true true true e f g = refl
-all_three true true false e f g = cc
-all_three true false c e f g = cc
-all_three false b c e f g = cc
 
 module _ (past : List Moment) (i : ℕ) (s : SlotTable) (rows : AreRows past i s) (slot : ℕ) (small : slot < 32) (t : TicketParts) (w : waiting (slot_in s.slots slot) ≡ Some t) where
   last : (slot_in s.slots slot).last ≡ Some t
