@@ -9,8 +9,7 @@
 #
 # The first two run `rt ci --anew` on a copy of what is committed. It reads four times a second how much processor time each prover has
 # used, so what a prover does in its last quarter of a second is missed, and what is built and run is in the row of other work. A
-# crate that an rt ci without --anew takes from kept work has no row. Other work on the machine makes it longer by the clock, and by a
-# half or more in processor time.
+# crate that an rt ci without --anew takes from kept work has no row. Other work on the machine makes it longer by the clock.
 watched=
 if [ "$1" = --watch ]; then
     watched=$2
