@@ -3,19 +3,34 @@ ghost use Rattle.sbp_world.specs.Completing.Labels.{FewUnderWayLaw, LabelsLeftLa
 ghost use Rattle.sbp_world.specs.Completing.LabelsAsked.{AskedLaw};
 ghost use Rattle.sbp_world.specs.Completing.LabelsFollowing.{ChunksLaw, DataLaw, FollowingLaw, NextLaw, ReadsLaw, ServedLaw, StatusesLaw};
 ghost use Rattle.sbp_world.specs.Completing.LabelsFound.{ClosedLaw, FoundLaw};
-ghost use Rattle.sbp_world.specs.Completing.Answers.{CompleteAsGotLaw, CompleteLaw};
+ghost use Rattle.sbp_world.specs.Completing.Answers.{CompleteAsGotLaw, CompleteLaw, ManagedCompleteLaw, OrbWholeAsGotLaw, WholeAsGotLaw};
 ghost use Rattle.sbp_world.specs.Completing.Operations.{ManagementAloneLaw, NoReadsLaw, WrittenLaw};
 ghost use Rattle.sbp_world.specs.Completing.OperationsReplies.{WholeRepliesLaw};
-ghost use Rattle.sbp_world.specs.Completing.Present.{RestPointedLaw, RungWrittenLaw};
+ghost use Rattle.sbp_world.specs.Completing.Present.{FreshFewLaw, RestPointedLaw, RungWrittenLaw};
+ghost use Rattle.sbp_world.specs.Completing.PresentHomes.{BasedFewLaw, HomeStillFewLaw, HomesFewLaw};
 ghost use Rattle.sbp_world.specs.Completing.Deaths.{AnsweredLaw, DeliveriesLive, GivenLaw, LivingLaw, NoneDiesLaw, OthersLive, RepliesLive};
+ghost use Rattle.sbp_world.specs.Completing.Done.{DeadKnownLaw, DoneLaw};
+ghost use Rattle.sbp_world.specs.Completing.Ends.{BlocksEnd, BusyRefuses, DeliveriesHandle, DeliveriesManage, GoOnLaw, NoneFailsLaw, OthersManage, RefusedLaw};
+ghost use Rattle.sbp_world.specs.Completing.Writes.{AcceptedLaw, AcceptedLivesLaw, AnsweredThereLaw, FifosLatestLaw, FifosOpenLaw, ReadableLaw, StatusesAcceptedLaw};
+ghost use Rattle.sbp_world.specs.Completing.EndsAimed.{AimedLaw};
+ghost use Rattle.sbp_world.specs.Completing.EndsBecame.{BecameLaw, LeftLaw};
+ghost use Rattle.sbp_world.specs.Completing.EndsLevels.{LevelLaw};
+ghost use Rattle.sbp_world.specs.Completing.EndsTaken.{TakenWriteLaw};
 ghost use Rattle.sbp_world.specs.Completing.Rest.{RestLaw};
 ghost use Rattle.sbp_world.specs.Completing.RestServed.{RestServedLaw};
 ghost use Rattle.sbp_world.specs.Completing.RestStatuses.{RestStatusesLaw};
-ghost use Rattle.sbp_world.specs.Completing.Answers.{CompleteAsGotLaw, CompleteLaw, ManagedCompleteLaw, WholeAsGotLaw};
+ghost use Rattle.sbp_world.specs.Completing.Managed.{FindsLaw, GivenBeforeLaw, GivenWhereOpenLaw};
+ghost use Rattle.sbp_world.specs.Completing.ManagedRefusals.{RefusalsLaw};
 ghost use Rattle.sbp_world.specs.Completing.Nulls.{NullsLaw};
+ghost use Rattle.sbp_world.specs.Completing.Bells.{BelledLaw, EndedAtRestLaw, ListsThenLaw, NullsNamedLaw, NullsThenLaw, RestsLastLaw, RungEndedWhereGotLaw, RungLinkedLaw};
+ghost use Rattle.sbp_world.specs.Completing.BellsGot.{RungEndedWhereTakenLaw};
+ghost use Rattle.sbp_world.specs.Completing.BellsFound.{BellsAddressedLaw, FoundTakenLaw, RungEndedWhereFoundLaw, RungEndedWhereQuadletsLaw};
+ghost use Rattle.sbp_world.specs.Completing.BellsFree.{BellsFreeLaw};
+ghost use Rattle.sbp_world.specs.Completing.BellsOpened.{OpeningsLaw};
+ghost use Rattle.sbp_world.specs.Completing.BellsTaken.{RestBelledLaw};
 ghost use Rattle.sbp_world.specs.Completing.Rung.{RungLaw};
-ghost use Rattle.sbp_world.specs.Completing.Answers.{CompleteAsGotLaw, CompleteLaw, ManagedCompleteLaw, OrbWholeAsGotLaw, WholeAsGotLaw};
 ghost use Rattle.sbp_world.specs.Counting.Bounded.{CompletionLaw};
+ghost use Rattle.sbp_world.specs.Completing.Shut.{GivenWhereLatestLaw, GivenWhereLoginsOpenLaw, LoginsInsideLaw, ToFifosLaw};
 ghost use Rattle.sbp_world.specs.Lists.AheadGots.{AheadAsGotLaw, AheadSinceLaw, WaitsAsGotLaw};
 ghost use Rattle.sbp_world.specs.Lists.Along.{AlongLaw};
 ghost use Rattle.sbp_world.specs.Lists.Bases.{BasesLaw};
@@ -947,6 +962,133 @@ pub fn rung_agents_go_on()
     ensures { RungLaw }
 {}
 
+/// In every run in which no initiator injected packets, or few logins were given, an agent whose DOORBELL the
+/// target got, or that was in RESET as the target got a packet, is SUSPENDED later, by the terms of the history,
+/// only where its last ORB is one of which, since then, the target got a response that brought a null next
+/// pointer to a read that was sent since. After every line, and behind each delivery of a line that delivers one
+/// packet after the other.
+pub fn agents_rest_at_last_orbs()
+    ensures { RestsLastLaw }
+{}
+
+/// In every run in which no initiator injected packets, or few logins were given, and before which lists were
+/// open as they should be: where an answer may bring an agent a null next pointer, to a read that it waits for
+/// of an initiator that injected none, the read is of an ORB of the list that the agent has, which stands in its
+/// slot. At each place of such a run.
+#[tactic(auto, using(crate::proofs::Completing::BellsNamedRuns::nulls_named_law))]
+pub fn null_pointers_are_of_the_agents_lists()
+    ensures { NullsNamedLaw }
+{}
+
+/// In every such run, of each agent that is out of RESET, be it DEAD: the ORB_POINTER that it took last was for the
+/// list of its place, and what it waits for goes to the initiator that has the place. At each place of such a run.
+#[tactic(auto, using(crate::proofs::Completing::BellsNamedRuns::lists_then_law))]
+pub fn agents_have_the_lists_of_their_places()
+    ensures { ListsThenLaw }
+{}
+
+/// In every such run, where the target got a null pointer from an initiator that injected none, the ORB that was
+/// prepared last in the slot was the last one of its list that was linked, as the read was got; and the read had
+/// been sent then.
+pub fn null_pointers_are_of_last_orbs_then()
+    ensures { NullsThenLaw }
+{}
+
+/// In every run in which no initiator injected packets, or few logins were given, and before which lists were
+/// open as they should be: an agent whose DOORBELL was got, or that was in RESET as a packet was got, and that is
+/// SUSPENDED with the list that it has had since, the latest one of its initiator, which injected none, has ended
+/// each ORB of the list that was linked at that moment. At each place of such a run.
+#[tactic(auto, using(crate::proofs::Completing::BellsRuns::ended_at_rest_law))]
+pub fn linked_orbs_have_ended_at_rest()
+    ensures { EndedAtRestLaw }
+{}
+
+/// In every such run, where a write of `ORB_POINTER` that waits finds the login of its initiator: a list that was
+/// not cut, and whose write of `ORB_POINTER` was taken in the generation that its initiator is in, is at an agent
+/// that is out of RESET, be it DEAD. It was in RESET as this write was got, and has had the list as each packet was
+/// got since.
+#[tactic(auto, using(crate::proofs::Completing::BellsOpenedRuns::openings_law))]
+pub fn agents_have_lists_since_their_pointers_were_got()
+    ensures { OpeningsLaw }
+{}
+
+/// In every such run: where what each ring wrote for the latest list of an initiator was got by the agent that has
+/// the list, a DOORBELL or the ORB_POINTER of the list, and this agent is SUSPENDED, each rung ORB of the list has
+/// ended. At each place of such a run.
+#[tactic(auto, using(crate::proofs::Completing::BellsRuns::rung_ended_law))]
+pub fn rung_orbs_end_where_their_writes_are_got()
+    ensures { RungEndedWhereGotLaw }
+{}
+
+/// In every run in which no initiator injected packets, where a write of `ORB_POINTER` that waits finds the login of
+/// its initiator, and where each `DOORBELL` that a ring wrote once the `ORB_POINTER` of its list was got is got by
+/// the agent that has the list: at rest each rung ORB has ended of a list that is present, which its initiator
+/// began since it first saw the latest reset.
+#[tactic(auto, using(crate::proofs::Completing::BellsGotRuns::rung_ended_where_taken))]
+pub fn rung_orbs_have_ended_where_bells_are_got()
+    ensures { RungEndedWhereTakenLaw }
+{}
+
+/// In every run in which no initiator injected packets, at rest: what a ring wrote once the `ORB_POINTER` of its list
+/// was got is a quadlet; and where each of these was got at the address of the `DOORBELL` of the agent that has the
+/// list, the agent got its `DOORBELL`, behind what stood as the ring wrote.
+#[tactic(auto, using(crate::proofs::Completing::BellsFoundRuns::found_taken))]
+pub fn quadlets_of_rings_are_bells()
+    ensures { FoundTakenLaw }
+{}
+
+/// In every run, at each place: no login bars a write at the `DOORBELL` of an agent that is out of RESET, be it DEAD, by
+/// the node of the initiator that has the place.
+#[tactic(auto, using(crate::proofs::Completing::BellsFreeRuns::bells_free_law))]
+pub fn no_login_bars_bells_of_open_agents()
+    ensures { BellsFreeLaw }
+{}
+
+/// In every run in which no initiator injected packets: each quadlet that a ring wrote once the `ORB_POINTER` of its
+/// list was got is for the `DOORBELL` of the agent that has the list.
+#[tactic(auto, using(crate::proofs::Completing::BellsAddressRuns::bells_addressed_law))]
+pub fn quadlets_of_rings_are_for_their_doorbells()
+    ensures { BellsAddressedLaw }
+{}
+
+/// In every run in which no initiator injected packets, where a write of `ORB_POINTER` that waits finds the login of
+/// its initiator, and where each quadlet that a ring wrote once the `ORB_POINTER` of its list was got is got at the
+/// address of the `DOORBELL` of the agent that has the list: at rest each rung ORB has ended of a list that is
+/// present, which its initiator began since it first saw the latest reset.
+#[tactic(auto, using(crate::proofs::Completing::BellsFoundRuns::rung_ended_where_found))]
+pub fn rung_orbs_have_ended_where_quadlets_are_got()
+    ensures { RungEndedWhereFoundLaw }
+{}
+
+/// In every run in which no initiator injected packets, where a write of `ORB_POINTER` that waits finds the login of
+/// its initiator, and where each quadlet that a ring wrote once the `ORB_POINTER` of its list was got is got: at rest
+/// each rung ORB has ended of a list that is present, which its initiator began since it first saw the latest reset.
+#[tactic(auto, using(crate::proofs::Completing::BellsQuadlets::rung_ended_where_quadlets))]
+pub fn rung_orbs_have_ended_where_writes_of_rings_are_got()
+    ensures { RungEndedWhereQuadletsLaw }
+{}
+
+/// In every run, where every node has seen the latest reset, nothing was lost since, and nothing is in flight: what
+/// each ring wrote, `ORB_POINTER` or `DOORBELL`, for a list that was not cut, and that its initiator, which injected
+/// no packets, began since it first saw that reset, was taken as new exactly once.
+#[tactic(auto, using(crate::proofs::Completing::BellsTakenRuns::rest_belled_law))]
+pub fn ring_writes_are_taken_at_rest()
+    ensures { RestBelledLaw }
+{}
+
+/// In every run, whatever anyone injected, no ORB is rung that is not linked, at each moment of the history.
+/// After every line, and behind each delivery of a line that delivers one packet after the other.
+pub fn rung_orbs_are_linked()
+    ensures { RungLinkedLaw }
+{}
+
+/// In every run, whatever anyone injected, of each rung ORB a ring of its initiator sent a write behind the
+/// moment at which the ORB was rung, while its list was the present one. After every line, and behind each
+/// delivery of a line that delivers one packet after the other.
+pub fn rung_orbs_have_their_write()
+    ensures { BelledLaw }
+{}
+
 /// In every run in which no initiator injected packets, or few logins were given, where the target got a null
 /// pointer from an initiator that injected none, in answer to its read of the ORB of a slot or of the next
 /// pointer there: as the read was got, the ORB that was prepared last in this slot was the last one of its list
@@ -999,6 +1141,30 @@ pub fn rung_lists_have_their_pointer()
 /// cut, the write of ORB_POINTER was sent in the generation that the initiator is in, and was taken as new.
 pub fn pointers_of_rung_lists_are_taken_at_rest()
     ensures { RestPointedLaw }
+{}
+
+/// In every run with few logins, before which lists were open as they should be: where a session of an initiator
+/// that injected no packets carries a response, and the target has a live login of its node with that ID, in the
+/// generation of both, the response names the agent of the place of this login.
+#[tactic(auto, using(crate::proofs::Completing::PresentBased::based_few_law))]
+pub fn responses_name_the_agents_of_their_logins()
+    ensures { BasedFewLaw }
+{}
+
+/// In every run in which no initiator injected packets and few logins were given: where every node has seen the
+/// latest reset, nothing was lost since, and nothing is in flight, a list with a rung ORB that its initiator began
+/// since it first saw that reset, and that was not cut, is the present one, and a SUSPENDED agent has it, unless an
+/// agent of the initiator is DEAD.
+#[tactic(auto, using(crate::proofs::Completing::PresentLaws::fresh_few_law))]
+pub fn fresh_lists_are_present_at_rest()
+    ensures { FreshFewLaw }
+{}
+
+/// While a write of `ORB_POINTER` waits to be judged, in the generation of both ends, the target has the login of its
+/// initiator in the place to whose agent it is written, where few logins were given.
+#[tactic(auto, using(crate::proofs::Completing::PresentLaws::homes_few_law))]
+pub fn pointers_that_wait_find_their_logins()
+    ensures { HomesFewLaw }
 {}
 
 /// In every run in which no initiator injected packets, what an agent asks to write behind a reply to the write of a status block is another
@@ -1077,4 +1243,239 @@ pub fn complete_answers_are_complete_replies()
 #[tactic(auto, using(crate::proofs::Completing::DeathsAnswered::answered_law))]
 pub fn no_agent_dies_where_answers_are_complete()
     ensures { AnsweredLaw }
+{}
+
+/// In every run in which nobody injected packets, at a place where the target has seen the latest reset: where no agent died since it first
+/// saw that reset, none is DEAD. A sight of a reset puts each agent into RESET, and a step by which one dies tells so.
+#[tactic(auto, using(crate::proofs::Completing::DeadKnownRuns::dead_known_law))]
+pub fn agents_that_are_dead_died()
+    ensures { DeadKnownLaw }
+{}
+
+/// In every run in which nobody injected packets, and the commands of the lines are those that a script can state: where the run is lossless
+/// and nothing is in flight, and at each moment since the target first saw the latest reset 40 requests at most to each initiator are under way
+/// that were sent for lists which have been cut, each ORB of a list that an initiator began since it first saw that reset, and did not cut, has
+/// its status, up to the one that was rung last; no operation and no read of AGENT_STATE is under way; and since the target first saw the reset
+/// no agent died, and no operation of the management failed. So it is where what is said of agents, operations and lists there holds.
+#[tactic(auto, using(crate::proofs::Completing::Done::done_law))]
+pub fn rung_orbs_complete_by_agents_and_operations()
+    ensures { DoneLaw }
+{}
+
+/// The management operation of the target does not fail in the delivery of a packet to it at which a step of the operation does not fail, and
+/// what it asks for finds a label: the step at the response to its transaction, and the read of a management ORB at a write of
+/// MANAGEMENT_AGENT. Nothing else that a delivery brings tells of such a failure.
+#[tactic(auto, using(crate::proofs::Completing::EndsTold::deliveries_manage))]
+pub fn no_operation_fails_in_a_delivery_that_goes_on()
+    ensures { DeliveriesManage }
+{}
+
+/// Such a delivery takes the operation on by the reply; or it starts one by a write of MANAGEMENT_AGENT, exactly where none is under way; or it
+/// leaves the operation as it is.
+#[tactic(auto, using(crate::proofs::Completing::EndsHandled::deliveries_handle))]
+pub fn deliveries_take_the_operation_on()
+    ensures { DeliveriesHandle }
+{}
+
+/// Nor does it where the target sees a generation, or a second goes by.
+#[tactic(auto, using(crate::proofs::Completing::EndsTold::others_manage))]
+pub fn no_operation_fails_at_a_sight_or_a_tick()
+    ensures { OthersManage }
+{}
+
+/// In every run in which no initiator injected packets: no operation of the management failed since the target first saw the latest reset,
+/// where nothing was lost since that reset, and at each moment since that sight at most 40 requests of the target to an initiator are under way
+/// that were sent for lists which have been cut. So it is if at each such place the response to the operation's transaction is whole, and what
+/// the operation asks for behind it finds a label.
+#[tactic(auto, using(crate::proofs::Completing::EndsRuns::none_fails_law))]
+pub fn no_operation_fails_where_replies_are_whole()
+    ensures { NoneFailsLaw }
+{}
+
+/// In every run in which no initiator injected packets, or few logins were given: a write of an initiator that injected none, which the target
+/// got and answered with conflict_error, is not answered complete. While it is the present request of its transaction, each response to it
+/// has that rcode.
+#[tactic(auto, using(crate::proofs::Completing::EndsRefused::refused_law))]
+pub fn refused_writes_are_not_completed()
+    ensures { RefusedLaw }
+{}
+
+/// While an operation is under way, a write of MANAGEMENT_AGENT that the target gets leaves it as it is, and is answered with conflict_error:
+/// the target hands out that response alone.
+#[tactic(auto, using(crate::proofs::Completing::EndsBusy::busy_refuses))]
+pub fn a_busy_management_agent_refuses()
+    ensures { BusyRefuses }
+{}
+
+/// A status block of the target that an initiator hears at an open FIFO, which names the management ORB of the operation under way, is got, and
+/// ends that operation.
+#[tactic(auto, using(crate::proofs::Completing::EndsHeard::blocks_end))]
+pub fn status_blocks_end_operations()
+    ensures { BlocksEnd }
+{}
+
+/// In every run in which no initiator injected packets, or few logins were given: the write by which an operation of management began that an
+/// initiator has under way, which injected none, brings the address of the management ORB in the place of the operation to MANAGEMENT_AGENT.
+#[tactic(auto, using(crate::proofs::Completing::EndsAimed::aimed_law))]
+pub fn operations_write_the_management_agent()
+    ensures { AimedLaw }
+{}
+
+/// In every run: behind a packet of the latest generation that was taken as new no reset began, and its receiver was in that generation, for what
+/// is taken is of a generation that its receiver had seen. So it was at each moment behind which it was taken.
+#[tactic(auto, using(crate::proofs::Completing::EndsLevels::level_law))]
+pub fn what_was_taken_was_of_a_generation_seen()
+    ensures { LevelLaw }
+{}
+
+/// In every run in which no initiator injected packets, at each place where nothing was lost since the latest reset: the write of an operation of
+/// management that an initiator has under way in the latest generation became, once it was taken, an operation that the target handles; or it
+/// was refused or ignored; or the status block of its ORB was taken. So it is if, while the target was in that generation, no operation of it
+/// failed, and what its operations waited for was answered whole.
+#[tactic(auto, using(crate::proofs::Completing::EndsBecame::became_law))]
+pub fn operations_become_what_their_writes_become()
+    ensures { BecameLaw }
+{}
+
+/// In every run in which no initiator injected packets, at each place where the run is without loss and nothing is in flight: an operation that an
+/// initiator has under way is one of management, whose write of MANAGEMENT_AGENT found another operation under way at the target, or was ignored;
+/// or its status block was taken. So it is if, while the target was in the latest generation, no operation of it failed, and what its operations
+/// waited for was answered whole.
+#[tactic(auto, using(crate::proofs::Completing::EndsLeft::left_law))]
+pub fn operations_left_at_rest_were_refused_or_ended()
+    ensures { LeftLaw }
+{}
+
+/// In every history: a write of MANAGEMENT_AGENT that the target took as new started an operation, which the target handles, unless one was
+/// under way, or the write was ignored; or the status block of its ORB was sent behind it and taken as new. So it is while nothing times out,
+/// no operation fails, the target sees no other generation, and what the operation waits for is answered whole.
+#[tactic(auto, using(crate::proofs::Completing::EndsTaken::taken_write_law))]
+pub fn writes_that_are_taken_are_handled()
+    ensures { TakenWriteLaw }
+{}
+
+/// In every run in which no initiator injected packets, at each place where nothing was lost since the latest reset, the target has seen that
+/// reset, and at most 40 requests of it to an initiator are under way that were sent for lists which have been cut: in each delivery to the
+/// target an operation under way goes on, of the same node and with the same ORB, or is over as the write of its status block was answered.
+/// So it is if the response to its transaction is whole, and what it asks for behind that finds a label.
+#[tactic(auto, using(crate::proofs::Completing::EndsGoing::go_on_law))]
+pub fn operations_go_on_where_replies_are_whole()
+    ensures { GoOnLaw }
+{}
+
+/// In every run in which nobody injected packets: the response to the request that the target's management operation waits for, as it is in flight
+/// to the target, is whole for the operation's phase, but for the response to its status block. The read of its ORB brings 32 bytes, that of a half
+/// of the EUI-64 brings 4, and the write of a login response or a query response is answered complete, whether the request was repeated or not.
+/// After every line, and behind each delivery of a line that delivers one packet after the other.
+#[tactic(auto, using(crate::proofs::Completing::ManagedRuns::given_before_law))]
+pub fn the_operation_is_answered_whole_before_its_status()
+    ensures { GivenBeforeLaw }
+{}
+
+/// In every run in which nobody injected packets: what the target's management operation asks for behind the response to its request finds a label, by
+/// the one that the response closed, where few labels are taken. A read does; a write behind a read does; and the status block behind the response
+/// that was written does, since it goes to a FIFO, and the response to a buffer. So it is also where the lists that the operation ends gave their
+/// transactions up before.
+#[tactic(auto, using(crate::proofs::Completing::ManagedFinding::managed_finds_law))]
+pub fn the_operation_finds_labels()
+    ensures { FindsLaw }
+{}
+
+/// In every run in which nobody injected packets and the commands are legal, while nothing is lost and few requests of lists that were cut are under
+/// way: the response to the main transaction of an agent answers complete what the agent asked for, a read with as many bytes as it asked for, and a
+/// write with rcode 0, also where it answers a write that came again. So it is if no initiator refused what an agent waits for: ignored it for its
+/// grammar, its source or its login.
+#[tactic(auto, using(crate::proofs::Completing::WritesPlaces::answered_there_law))]
+pub fn main_transactions_are_answered_complete()
+    ensures { AnsweredThereLaw }
+{}
+
+/// In every run in which nobody injected packets no initiator refuses what an agent waits for, if each write of one behind the buffers of its
+/// initiator is accepted: it goes to the FIFO of the login that this initiator asked for last, whose session is not out, and its bytes can be read as a
+/// status block.
+#[tactic(auto, using(crate::proofs::Completing::WritesAllowed::accepted_law))]
+pub fn accepted_statuses_are_not_refused()
+    ensures { AcceptedLaw }
+{}
+
+/// So it is of each such write if it is of each status block that an agent waits for.
+#[tactic(auto, using(crate::proofs::Completing::WritesStatuses::statuses_accepted_law))]
+pub fn agents_write_statuses_alone_behind_buffers()
+    ensures { StatusesAcceptedLaw }
+{}
+
+/// A status that an agent waits for is accepted if the FIFO of the login of its place is that of the login which the initiator asked for last, whose
+/// session is not out, and if what the agent writes can be read as a status block.
+#[tactic(auto, using(crate::proofs::Completing::WritesFifos::fifos_open_law))]
+pub fn statuses_to_open_fifos_are_accepted()
+    ensures { FifosOpenLaw }
+{}
+
+/// In every run in which nobody injected packets, what an agent writes as a status can be read as a status block, which names a command ORB.
+#[tactic(auto, using(crate::proofs::Completing::FifosReadable::readable_law))]
+pub fn agents_write_status_blocks()
+    ensures { ReadableLaw }
+{}
+
+/// In every run in which nobody injected packets, an initiator in the target's generation that has a live login is not out: so the FIFO of a login
+/// whose agent writes a status is open, if it is that of the login which its initiator asked for last.
+#[tactic(auto, using(crate::proofs::Completing::FifosInside::fifos_latest_law))]
+pub fn fifos_that_are_the_latest_are_open()
+    ensures { FifosLatestLaw }
+{}
+
+/// So no agent dies in every run in which nobody injected packets and the commands are legal, while nothing is lost and few requests of lists that
+/// were cut are under way, if where an agent writes a status the FIFO of its login is that of the login which its initiator asked for last.
+#[tactic(auto, using(crate::proofs::Completing::WritesLives::accepted_lives_law))]
+pub fn no_agent_dies_where_fifos_are_the_latest()
+    ensures { AcceptedLivesLaw }
+{}
+
+/// In every run an initiator answers a request of the target with an error, where its payload is read as a status block, only if it writes to a FIFO that is
+/// closed then: that of a login number which is not the initiator's latest one, or whose session is out. So none to a FIFO of management is refused.
+#[tactic(auto, using(crate::proofs::Completing::ManagedRefusals::refusals_law))]
+pub fn status_blocks_to_open_fifos_are_taken()
+    ensures { RefusalsLaw }
+{}
+
+/// In every run in which nobody injected packets: so is the response to the status block of the operation, where the FIFO that the block goes to is open
+/// whenever its initiator ignores the block. So the operation is answered whole in each of its phases.
+#[tactic(auto, using(crate::proofs::Completing::ManagedStatuses::given_where_open_law))]
+pub fn the_operation_is_answered_whole_where_its_fifo_is_open()
+    ensures { GivenWhereOpenLaw }
+{}
+
+/// In every run in which nobody injected packets the status block of the target's management operation goes to the FIFO that its management ORB names, which
+/// is the one that the target read last: the FIFO of a login number, or that of a place of management.
+#[tactic(auto, using(crate::proofs::Completing::ShutRuns::to_fifos_law))]
+pub fn status_blocks_go_to_the_fifos_of_their_orbs()
+    ensures { ToFifosLaw }
+{}
+
+/// So what the operation waits for is answered whole, where its status block goes to the FIFO of a place, which is open always; and so it is where the block
+/// goes to the FIFO of a login number, which is open whenever its initiator ignores the block.
+#[tactic(auto, using(crate::proofs::Completing::ShutRuns::given_where_logins_open_law))]
+pub fn the_operation_is_answered_whole_where_logins_are_open()
+    ensures { GivenWhereLoginsOpenLaw }
+{}
+
+/// The FIFO of a login number is open where it is that of the number which the initiator used last, and its session is not out: so what the operation waits
+/// for is answered whole, where the FIFO of a login number to which its status block goes is such a one whenever the initiator ignores the block.
+#[tactic(auto, using(crate::proofs::Completing::ShutLogins::given_where_latest_law))]
+pub fn the_operation_is_answered_whole_where_logins_are_the_latest()
+    ensures { GivenWhereLatestLaw }
+{}
+
+/// In every run in which nobody injected packets the session of an initiator that has a login under way is not out: it is entering, or stuck.
+#[tactic(auto, using(crate::proofs::Completing::ShutSessions::logins_inside_law))]
+pub fn sessions_with_a_login_under_way_are_not_out()
+    ensures { LoginsInsideLaw }
+{}
+
+/// While a write of ORB_POINTER waits to be judged, in the generation of both ends, the target has the login of its initiator, also where this
+/// has given up meanwhile, where few logins were given: the session was live as the write was sent, with no logout under way, and none began
+/// since.
+#[tactic(auto, using(crate::proofs::Completing::HomeLaws::home_still_law))]
+pub fn logins_stay_while_a_pointer_waits()
+    ensures { HomeStillFewLaw }
 {}

@@ -51,7 +51,7 @@ use Rattle.sbp_world.proofs.Lists.UnderwayRuns.{delivering}
 use Rattle.sbp_world.proofs.Lists.Walks.{Walks, walked_after, walked_between}
 
 -- ---- agents that read data
-abbrev Nothing : List Moment → WorldState → Type 0
+abbrev pub Nothing : List Moment → WorldState → Type 0
 Nothing past w = Unit {0}
 
 abbrev AllReading : (ℕ → Bool) → List Moment → WorldState → Type 0
@@ -77,10 +77,10 @@ first_reading wild line run q b = subst (λ (d : Desk). IsReading d.agent) (sym 
     new_desks (suc n) zero = refl
     new_desks (suc n) (suc p) = new_desks n p
 
-no_ground : Always Nothing
+pub no_ground : Always Nothing
 no_ground = record { after_lines = λ line run r has small size. tt; between = λ line run r has small size next most told m. tt }
 
-nothing : Under Nothing
+pub nothing : Under Nothing
 nothing = record { after_lines = λ line run r has small size so_far. tt; between = λ line run r has small size next most told m so_far. tt }
 
 reading_law : Under (AllReading (λ i. true))
@@ -90,7 +90,7 @@ reading_law = record {
 }
 
 -- ---- what is known of each place
-rested : Under (WhereTameOrFew (λ past w. AreRested (injectors past) past w))
+pub rested : Under (WhereTameOrFew (λ past w. AreRested (injectors past) past w))
 rested = places.rested_law opened_known.laws.pointers opened_known.laws.begun (here_beside short_law) (placed_beside short_law) opened_known.laws.joined
 
 kits : EveryPlace Kit

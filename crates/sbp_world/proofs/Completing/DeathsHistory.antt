@@ -1,4 +1,5 @@
--- How a history goes on without a death since the target first saw the latest reset, turn by turn: where nothing was lost since, and the target is in the generation of the bus, a turn says of none.
+-- How a history goes on without a death, or without a failure of the management operation, since the target first saw the latest reset, turn by turn: where nothing was lost since, and the target is in the generation of
+-- the bus, a turn says of none.
 use Rattle.sbp_world.proofs.Words.Std.{◌≡◌, ◌∙◌, refl, sym, ap, subst, ℕ, ◌≤◌, ◌==◌, ◌||◌, nat_eq, Bool, true, false, cond, List, [], ◌∷◌, ◌++◌, length, map, Option, Some, None, arith, nat_tests, false≢true}
 use Rattle.sbp_world.proofs.Words.Wire.{Moment, asked, said, Kind, Part, Sending, Transaction, asked_by, begun_by, part_of, request, response, Held, Owed, Terms, begins, closes, closes_if, free, gets, gets_as, gives, ignores, ignores_that, judges, judges_if, opened, pays, puts, rests, sends, terms, times_out, waits, Cause, Event, Note}
 use Rattle.bus_transactions.specs.Carried.{AreKept}
@@ -9,8 +10,9 @@ use Rattle.sbp_journal.specs.declared.note.Note.TheVariants as notes
 use Rattle.sbp_laws.specs.Budget.{since_reset}
 use Rattle.sbp_world.specs.Completing.Sights.{behind_sight, has_seen, since_sight}
 use Rattle.sbp_world.specs.Completing.Deaths.{NoneDies}
+use Rattle.sbp_world.specs.Completing.Ends.{NoneManagesFail}
 use Rattle.sbp_world.proofs.Common.{said_joined}
-use Rattle.sbp_world.proofs.Completing.DeathsTurns.{Adds, AllMid, IsMid, TurnSays, Turned, asks, goes, lapses, passes, resets, sees}
+use Rattle.sbp_world.proofs.Completing.DeathsTurns.{Adds, AllMid, IsMid, May, TurnSays, Turned, any, asks, deathless, goes, lapses, passes, resets, sees, unfailing}
 use Rattle.sbp_world.proofs.Lists.Generations.{moment_generation}
 use Rattle.sbp_world.proofs.Pointers.Ages.{other_node}
 
@@ -18,7 +20,7 @@ use Rattle.sbp_world.proofs.Pointers.Ages.{other_node}
 abbrev Same : Terms → Terms → Type 0
 Same t u = u.bus ≡ t.bus
 
-opens : (event : Event) (t : Terms) → Same t (opened event t)
+pub opens : (event : Event) (t : Terms) → Same t (opened event t)
 opens (events.Reset physical) t = refl
 opens (events.Repeat serial) t = refl
 opens _ t = refl
@@ -62,7 +64,7 @@ ignored_that : (found : Option Sending) (cause : Cause) (s : ℕ) (t : Terms) �
 ignored_that None cause s t = refl
 ignored_that (Some packet) cause s t = ignored cause s packet _
 
-timed : (u : Option Transaction) (t : Terms) → Same t (times_out u t)
+pub timed : (u : Option Transaction) (t : Terms) → Same t (times_out u t)
 timed None t = refl
 timed (Some u) t = refl
 
@@ -83,7 +85,7 @@ sent s packet t =
     let put = puts (begun_by packet) s packet t in
     paid t.owes t.sent s packet (begins (begun_by packet) s packet put) ∙ begun (begun_by packet) s packet put
 
-note_bus : (note : Note) (past : List Moment) → IsMid true note → (terms (said note ∷ past)).bus ≡ (terms past).bus
+pub note_bus : (note : Note) (past : List Moment) → IsMid any note → (terms (said note ∷ past)).bus ≡ (terms past).bus
 note_bus (notes.Sent s generation from to bytes) past m = sent s _ (terms past)
 note_bus (notes.Got s) past m = got ((terms past).sent s) s (terms past)
 note_bus (notes.Ignored s cause) past m = ignored_that ((terms past).sent s) cause s (terms past)
@@ -92,7 +94,7 @@ note_bus (notes.Reset generation) past m = absurd m
 note_bus note past m = refl
 
 -- ---- and of the rest
-note_generation : (note : Note) (past : List Moment) → IsMid true note → (terms (said note ∷ past)).generation 0 ≡ (terms past).generation 0
+pub note_generation : (note : Note) (past : List Moment) → IsMid any note → (terms (said note ∷ past)).generation 0 ≡ (terms past).generation 0
 note_generation (notes.Seen node generation) past m = absurd m
 note_generation (notes.Sent s generation from to bytes) past m = moment_generation 0 (said (notes.Sent s generation from to bytes)) past refl
 note_generation (notes.Got s) past m = moment_generation 0 (said (notes.Got s)) past refl
@@ -100,16 +102,16 @@ note_generation (notes.Ignored s cause) past m = moment_generation 0 (said (note
 note_generation (notes.TimedOut s) past m = absurd m
 note_generation note past m = refl
 
-note_since : (note : Note) (past : List Moment) → IsMid true note → since_reset (said note ∷ past) ≡ said note ∷ since_reset past
+note_since : (note : Note) (past : List Moment) → IsMid any note → since_reset (said note ∷ past) ≡ said note ∷ since_reset past
 note_since (notes.Begin initiators ready) past m = absurd m
 note_since (notes.Reset generation) past m = absurd m
 note_since note past m = refl
 
-note_seen : (note : Note) (ms : List Moment) → IsMid true note → has_seen 0 (said note ∷ ms) ≡ has_seen 0 ms
+note_seen : (note : Note) (ms : List Moment) → IsMid any note → has_seen 0 (said note ∷ ms) ≡ has_seen 0 ms
 note_seen (notes.Seen node generation) ms m = absurd m
 note_seen note ms m = refl
 
-note_kept : (note : Note) (past : List Moment) → IsMid true note → AreKept (said note ∷ past) → AreKept past
+note_kept : (note : Note) (past : List Moment) → IsMid any note → AreKept (said note ∷ past) → AreKept past
 note_kept (notes.Reset generation) past m k = absurd m
 note_kept (notes.Lost s) past m k = absurd k
 note_kept (notes.TimedOut s) past m k = absurd m
@@ -117,30 +119,44 @@ note_kept (notes.Injected s) past m k = absurd k
 note_kept (notes.Ignored s causes.Generation) past m k = k.1
 note_kept note past m k = k
 
-live_may : (note : Note) → IsMid false note → IsMid true note
-live_may (notes.Begin initiators ready) m = absurd m
-live_may (notes.Reset generation) m = absurd m
-live_may (notes.Seen node generation) m = absurd m
-live_may (notes.TimedOut serial) m = absurd m
-live_may (notes.Dead i list cause) m = refl
-live_may note m = tt
+live_may : (may : May) (note : Note) → IsMid may note → IsMid any note
+live_may may (notes.Begin initiators ready) m = absurd m
+live_may may (notes.Reset generation) m = absurd m
+live_may may (notes.Seen node generation) m = absurd m
+live_may may (notes.TimedOut serial) m = absurd m
+live_may may (notes.Dead i list cause) m = refl
+live_may may (notes.ManageFailed i cause) m = refl
+live_may may note m = tt
 
 -- ---- since the sight
 abbrev sight : Bool → List Moment → List Moment
 sight first ms = cond first ms (behind_sight 0 ms)
 
--- a moment that is of no death
-abbrev IsLive : Moment → Type 0
-IsLive (said (notes.Dead i list cause)) = ⊥
-IsLive moment = Unit {0}
+-- a moment that is of what may be told; and such moments
+abbrev pub IsLive : May → Moment → Type 0
+IsLive may (said (notes.Dead i list cause)) = may.dies ≡ true
+IsLive may (said (notes.ManageFailed i cause)) = may.fails ≡ true
+IsLive may moment = Unit {0}
 
-cons_dies : (moment : Moment) (ms : List Moment) → IsLive moment → NoneDies ms → NoneDies (moment ∷ ms)
-cons_dies (said (notes.Dead i list cause)) ms l n = absurd l
-cons_dies moment ms l n = n
+abbrev pub AreLive : May → List Moment → Type 0
+AreLive may [] = Unit {0}
+AreLive may (moment ∷ ms) = IsLive may moment × AreLive may ms
 
-live_note : (note : Note) → IsMid false note → IsLive (said note)
-live_note (notes.Dead i list cause) m = absurd (false≢true m)
-live_note note m = tt
+live_note : (may : May) (note : Note) → IsMid may note → IsLive may (said note)
+live_note may (notes.Dead i list cause) m = m
+live_note may (notes.ManageFailed i cause) m = m
+live_note may note m = tt
+
+-- so none died, or failed
+pub none_dies : (ms : List Moment) → AreLive deathless ms → NoneDies ms
+none_dies [] l = tt
+none_dies (said (notes.Dead i list cause) ∷ ms) l = absurd (false≢true l.0)
+none_dies (moment ∷ ms) l = none_dies ms l.1
+
+pub none_fails : (ms : List Moment) → AreLive unfailing ms → NoneManagesFail ms
+none_fails [] l = tt
+none_fails (said (notes.ManageFailed i cause) ∷ ms) l = absurd (false≢true l.0)
+none_fails (moment ∷ ms) l = none_fails ms l.1
 
 -- the target saw the latest reset, or there was none
 abbrev pub is_open : List Moment → Bool
@@ -150,15 +166,15 @@ is_open past = ((terms past).bus == 0) || has_seen 0 (since_reset past)
 abbrev pub AllSince : (List Moment → Type 0) → List Moment → Type 0
 AllSince Small past = (later earlier : List Moment) → later ++ earlier ≡ past → length later ≤ length (since_sight 0 past) → Small earlier
 
--- none died since then; and where the target saw it, it is in its generation
-pub record Lives (Small : List Moment → Type 0) (past : List Moment) : Type 0 where
-  pub none : AreKept past → AllSince Small past → NoneDies (since_sight 0 past)
+-- none died, or failed, since then; and where the target saw it, it is in its generation
+pub record Lives (may : May) (Small : List Moment → Type 0) (past : List Moment) : Type 0 where
+  pub none : AreKept past → AllSince Small past → AreLive may (since_sight 0 past)
   pub seen : has_seen 0 (since_reset past) ≡ true → (terms past).generation 0 ≡ (terms past).bus
 
 -- ---- one more moment, of the same generation
-record Follows (moment : Moment) (past : List Moment) : Type 0 where
-  bus : (terms (moment ∷ past)).bus ≡ (terms past).bus
-  since : since_reset (moment ∷ past) ≡ moment ∷ since_reset past
+pub record Follows (moment : Moment) (past : List Moment) : Type 0 where
+  pub bus : (terms (moment ∷ past)).bus ≡ (terms past).bus
+  pub since : since_reset (moment ∷ past) ≡ moment ∷ since_reset past
 
 module _ (moment : Moment) (past : List Moment) (f : Follows moment past) where
   abbrev first : Bool
@@ -176,7 +192,7 @@ module _ (moment : Moment) (past : List Moment) (f : Follows moment past) where
   open_by false false e g o = absurd (false≢true o)
 
   -- where it is since the sight
-  sight_on : is_open past ≡ true → since_sight 0 (moment ∷ past) ≡ moment ∷ since_sight 0 past
+  pub sight_on : is_open past ≡ true → since_sight 0 (moment ∷ past) ≡ moment ∷ since_sight 0 past
   sight_on o = sight_is ∙ open_by first (has_seen 0 ms) refl refl o
 
   small_back : (Small : List Moment → Type 0) → is_open past ≡ true → AllSince Small (moment ∷ past) → AllSince Small past
@@ -191,14 +207,14 @@ module _ (moment : Moment) (past : List Moment) (f : Follows moment past) where
   sight_shut : is_open past ≡ false → since_sight 0 (moment ∷ past) ≡ []
   sight_shut o = sight_is ∙ shut_by first (has_seen 0 ms) refl refl o
 
-  one_lives : (Small : List Moment → Type 0) → IsLive moment → (AreKept (moment ∷ past) → AreKept past) → Lives Small past → AreKept (moment ∷ past) → AllSince Small (moment ∷ past) → NoneDies (since_sight 0 (moment ∷ past))
-  one_lives Small live back p kept small = by (is_open past) refl
+  one_lives : (may : May) (Small : List Moment → Type 0) → IsLive may moment → (AreKept (moment ∷ past) → AreKept past) → Lives may Small past → AreKept (moment ∷ past) → AllSince Small (moment ∷ past) → AreLive may (since_sight 0 (moment ∷ past))
+  one_lives may Small live back p kept small = by (is_open past) refl
     where
-      by : (b : Bool) → is_open past ≡ b → NoneDies (since_sight 0 (moment ∷ past))
-      by true o = subst NoneDies (sym (sight_on o)) (cons_dies moment (since_sight 0 past) live (p.none (back kept) (small_back Small o small)))
-      by false o = subst NoneDies (sym (sight_shut o)) tt
+      by : (b : Bool) → is_open past ≡ b → AreLive may (since_sight 0 (moment ∷ past))
+      by true o = subst (AreLive may) (sym (sight_on o)) (live, p.none (back kept) (small_back Small o small))
+      by false o = subst (AreLive may) (sym (sight_shut o)) tt
 
-note_follows : (note : Note) (past : List Moment) → IsMid true note → Follows (said note) past
+pub note_follows : (note : Note) (past : List Moment) → IsMid any note → Follows (said note) past
 note_follows note past m = record { bus = note_bus note past m; since = note_since note past m }
 
 moment_seen : (moment : Moment) (ms : List Moment) → has_seen 0 (moment ∷ ms) ≡ false → has_seen 0 ms ≡ false
@@ -209,38 +225,38 @@ moment_seen (said (notes.Seen node generation)) ms e = by (node == 0) e
     by false e = e
 moment_seen moment ms e = e
 
-module _ (Small : List Moment → Type 0) where
+module _ (may : May) (Small : List Moment → Type 0) where
   -- ---- notes of no reset or sight
-  note_sight : (note : Note) (past : List Moment) → IsMid true note → Lives Small past → has_seen 0 (since_reset (said note ∷ past)) ≡ true → (terms (said note ∷ past)).generation 0 ≡ (terms (said note ∷ past)).bus
+  note_sight : (note : Note) (past : List Moment) → IsMid any note → Lives may Small past → has_seen 0 (since_reset (said note ∷ past)) ≡ true → (terms (said note ∷ past)).generation 0 ≡ (terms (said note ∷ past)).bus
   note_sight note past m p e =
       note_generation note past m ∙ (p.seen (sym (note_seen note (since_reset past) m) ∙ (ap (has_seen 0) (sym (note_since note past m)) ∙ e)) ∙ sym (note_bus note past m))
 
-  note_lives : (note : Note) (past : List Moment) → IsMid false note → Lives Small past → Lives Small (said note ∷ past)
+  note_lives : (note : Note) (past : List Moment) → IsMid may note → Lives may Small past → Lives may Small (said note ∷ past)
   note_lives note past m p =
-      let may = live_may note m in
+      let mid = live_may may note m in
       record {
-        none = one_lives (said note) past (note_follows note past may) Small (live_note note m) (note_kept note past may) p;
-        seen = note_sight note past may p;
+        none = one_lives (said note) past (note_follows note past mid) may Small (live_note may note m) (note_kept note past mid) p;
+        seen = note_sight note past mid p;
       }
 
-  more_lives : (more : List Note) (past : List Moment) → AllMid false more → Lives Small past → Lives Small (map said more ++ past)
+  more_lives : (more : List Note) (past : List Moment) → AllMid may more → Lives may Small past → Lives may Small (map said more ++ past)
   more_lives [] past m p = p
   more_lives (note ∷ more) past m p = note_lives note (map said more ++ past) m.0 (more_lives more past m.1 p)
 
   -- what is known of any such notes
   record Leaves (more : List Note) (past : List Moment) : Type 0 where
-    sights : Lives Small past → has_seen 0 (since_reset (map said more ++ past)) ≡ true → (terms (map said more ++ past)).generation 0 ≡ (terms (map said more ++ past)).bus
+    sights : Lives may Small past → has_seen 0 (since_reset (map said more ++ past)) ≡ true → (terms (map said more ++ past)).generation 0 ≡ (terms (map said more ++ past)).bus
     open_is : is_open (map said more ++ past) ≡ is_open past
     kept : AreKept (map said more ++ past) → AreKept past
     small : is_open past ≡ true → AllSince Small (map said more ++ past) → AllSince Small past
     shut : is_open past ≡ false → since_sight 0 past ≡ [] → since_sight 0 (map said more ++ past) ≡ []
 
-  open_same : (note : Note) (past : List Moment) → IsMid true note → is_open (said note ∷ past) ≡ is_open past
+  pub open_same : (note : Note) (past : List Moment) → IsMid any note → is_open (said note ∷ past) ≡ is_open past
   open_same note past m =
       ap (λ (n : ℕ). (n == 0) || has_seen 0 (since_reset (said note ∷ past))) (note_bus note past m)
       ∙ ap (λ b. ((terms past).bus == 0) || b) (ap (has_seen 0) (note_since note past m) ∙ note_seen note (since_reset past) m)
 
-  leaves : (more : List Note) (past : List Moment) → AllMid true more → Leaves more past
+  leaves : (more : List Note) (past : List Moment) → AllMid any more → Leaves more past
   leaves [] past m = record { sights = λ p. p.seen; open_is = refl; kept = λ k. k; small = λ o s. s; shut = λ o e. e }
   leaves (note ∷ more) past m =
       let l = leaves more past m.1 in
@@ -257,19 +273,19 @@ module _ (Small : List Moment → Type 0) where
       }
 
   -- ---- a line is asked for
-  asked_follows : (line : ℕ) (event : Event) (past : List Moment) → Follows (asked line event) past
+  pub asked_follows : (line : ℕ) (event : Event) (past : List Moment) → Follows (asked line event) past
   asked_follows line event past = record { bus = opens event (terms past); since = refl }
 
-  asked_lives : (line : ℕ) (event : Event) (past : List Moment) → Lives Small past → Lives Small (asked line event ∷ past)
+  asked_lives : (line : ℕ) (event : Event) (past : List Moment) → Lives may Small past → Lives may Small (asked line event ∷ past)
   asked_lives line event past p = record {
-    none = one_lives (asked line event) past (asked_follows line event past) Small tt (λ k. k) p;
+    none = one_lives (asked line event) past (asked_follows line event past) may Small tt (λ k. k) p;
     seen = λ e. moment_generation 0 (asked line event) past refl ∙ (p.seen e ∙ sym (opens event (terms past)));
   }
 
   -- a sight of the latest generation
-  sees_lives : (node : ℕ) (past : List Moment) → Lives Small past → Lives Small (said (notes.Seen node (terms past).bus) ∷ past)
+  sees_lives : (node : ℕ) (past : List Moment) → Lives may Small past → Lives may Small (said (notes.Seen node (terms past).bus) ∷ past)
   sees_lives node past p = record {
-    none = one_lives (said (notes.Seen node (terms past).bus)) past (record { bus = refl; since = refl }) Small tt (λ k. k) p;
+    none = one_lives (said (notes.Seen node (terms past).bus)) past (record { bus = refl; since = refl }) may Small tt (λ k. k) p;
     seen = λ e. by (node == 0) refl e;
   }
     where
@@ -291,19 +307,19 @@ module _ (Small : List Moment → Type 0) where
       by false false e f = none_seen (since_reset past) e
 
   -- ---- a turn
-  module _ (AreLive : Type 0) (latest : ℕ) (old : List Note) (base : List Moment) where
+  module _ (Goes : Type 0) (latest : ℕ) (old : List Note) (base : List Moment) where
     abbrev before : List Moment
     before = map said old ++ base
 
     -- what is known of the history before it
     record Known : Type 0 where
-      lives : Lives Small before
+      lives : Lives may Small before
       latest_is : (terms before).bus ≡ latest
       first : (terms before).bus ≡ 0 → (terms before).generation 0 ≡ (terms before).bus
-      live : AreKept before → (terms before).generation 0 ≡ (terms before).bus → Small before → AreLive
+      live : AreKept before → (terms before).generation 0 ≡ (terms before).bus → Small before → Goes
 
-    joined : (deaths : Bool) (new : List Note) (a : Adds deaths old new) → map said a.more ++ before ≡ map said new ++ base
-    joined deaths new a = said_joined a.more old base ∙ ap (λ ns. map said ns ++ base) a.is
+    joined : (told : May) (new : List Note) (a : Adds told old new) → map said a.more ++ before ≡ map said new ++ base
+    joined told new a = said_joined a.more old base ∙ ap (λ ns. map said ns ++ base) a.is
 
     module _ (k : Known) where
       level_by : (b c : Bool) → ((terms before).bus == 0) ≡ b → has_seen 0 (since_reset before) ≡ c → (b || c) ≡ true → (terms before).generation 0 ≡ (terms before).bus
@@ -314,29 +330,29 @@ module _ (Small : List Moment → Type 0) where
       level : is_open before ≡ true → (terms before).generation 0 ≡ (terms before).bus
       level o = level_by ((terms before).bus == 0) (has_seen 0 (since_reset before)) refl refl o
 
-      passes_on : (new : List Note) → Adds true old new → (AreLive → Adds false old new) → Lives Small (map said new ++ base)
-      passes_on new any live = record {
+      passes_on : (new : List Note) → Adds any old new → (Goes → Adds may old new) → Lives may Small (map said new ++ base)
+      passes_on new all live = record {
         none = λ kept small. by (is_open before) refl kept small;
-        seen = subst (λ ms. has_seen 0 (since_reset ms) ≡ true → (terms ms).generation 0 ≡ (terms ms).bus) (joined true new any) ((leaves any.more before any.mid).sights k.lives);
+        seen = subst (λ ms. has_seen 0 (since_reset ms) ≡ true → (terms ms).generation 0 ≡ (terms ms).bus) (joined any new all) ((leaves all.more before all.mid).sights k.lives);
       }
         where
-          l : Leaves any.more before
-          l = leaves any.more before any.mid
+          l : Leaves all.more before
+          l = leaves all.more before all.mid
 
-          by : (b : Bool) → is_open before ≡ b → AreKept (map said new ++ base) → AllSince Small (map said new ++ base) → NoneDies (since_sight 0 (map said new ++ base))
+          by : (b : Bool) → is_open before ≡ b → AreKept (map said new ++ base) → AllSince Small (map said new ++ base) → AreLive may (since_sight 0 (map said new ++ base))
           by true o kept small =
-              let back = sym (joined true new any) in
+              let back = sym (joined any new all) in
               let few = l.small o (subst (AllSince Small) back small) in
               let a = live (k.live (l.kept (subst AreKept back kept)) (level o) (few [] before refl (omega arith))) in
-              subst (λ ms. AreKept ms → AllSince Small ms → NoneDies (since_sight 0 ms)) (joined false new a) (more_lives a.more before a.mid k.lives).none kept small
-          by false o kept small = subst (λ ms. NoneDies (since_sight 0 ms)) (joined true new any) (subst NoneDies (sym (l.shut o (nothing_shut before o))) tt)
+              subst (λ ms. AreKept ms → AllSince Small ms → AreLive may (since_sight 0 ms)) (joined may new a) (more_lives a.more before a.mid k.lives).none kept small
+          by false o kept small = subst (λ ms. AreLive may (since_sight 0 ms)) (joined any new all) (subst (AreLive may) (sym (l.shut o (nothing_shut before o))) tt)
 
-      lapses_on : (new : List Note) (serial : ℕ) → Adds true (notes.TimedOut serial ∷ old) new → Lives Small (map said new ++ base)
+      lapses_on : (new : List Note) (serial : ℕ) → Adds any (notes.TimedOut serial ∷ old) new → Lives may Small (map said new ++ base)
       lapses_on new serial a =
           let q = said (notes.TimedOut serial) ∷ before in
           let is : map said a.more ++ q ≡ map said new ++ base = said_joined a.more (notes.TimedOut serial ∷ old) base ∙ ap (λ ns. map said ns ++ base) a.is in
           let l = leaves a.more q a.mid in
-          subst (Lives Small) is
+          subst (Lives may Small) is
           (record {
             none = λ kept small. absurd (l.kept kept);
             seen = l.sights (record {
@@ -345,44 +361,44 @@ module _ (Small : List Moment → Type 0) where
             });
           })
 
-      resets_on : (new : List Note) (generation : ℕ) → new ≡ notes.Reset generation ∷ old → Lives Small (map said new ++ base)
+      resets_on : (new : List Note) (generation : ℕ) → new ≡ notes.Reset generation ∷ old → Lives may Small (map said new ++ base)
       resets_on new generation e =
-          subst (λ ns. Lives Small (map said ns ++ base)) (sym e)
+          subst (λ ns. Lives may Small (map said ns ++ base)) (sym e)
           (record { none = λ kept small. nothing_said (generation == 0); seen = λ x. absurd (false≢true x) })
         where
-          nothing_said : (b : Bool) → NoneDies (sight b [])
+          nothing_said : (b : Bool) → AreLive may (sight b [])
           nothing_said true = tt
           nothing_said false = tt
 
-      sees_on : (new : List Note) (node : ℕ) → Adds false (notes.Seen node latest ∷ old) new → Lives Small (map said new ++ base)
+      sees_on : (new : List Note) (node : ℕ) → Adds may (notes.Seen node latest ∷ old) new → Lives may Small (map said new ++ base)
       sees_on new node a =
           let q = said (notes.Seen node latest) ∷ before in
           let is : map said a.more ++ q ≡ map said new ++ base = said_joined a.more (notes.Seen node latest ∷ old) base ∙ ap (λ ns. map said ns ++ base) a.is in
-          subst (Lives Small) is (more_lives a.more q a.mid (subst (λ g. Lives Small (said (notes.Seen node g) ∷ before)) k.latest_is (sees_lives node before k.lives)))
+          subst (Lives may Small) is (more_lives a.more q a.mid (subst (λ g. Lives may Small (said (notes.Seen node g) ∷ before)) k.latest_is (sees_lives node before k.lives)))
 
-      turned_lives : (new : List Note) → Turned AreLive latest old new → Lives Small (map said new ++ base)
-      turned_lives new (passes any live) = passes_on new any live
+      turned_lives : (new : List Note) → Turned may Goes latest old new → Lives may Small (map said new ++ base)
+      turned_lives new (passes all live) = passes_on new all live
       turned_lives new (lapses serial a) = lapses_on new serial a
       turned_lives new (resets generation e) = resets_on new generation e
       turned_lives new (sees node a) = sees_on new node a
 
   -- by what is known of the place before
-  pub turn_lives : (AreLive : Type 0) (latest : ℕ) (past now : List Moment) → TurnSays AreLive latest past now → Lives Small past → (terms past).bus ≡ latest → ((terms past).bus ≡ 0 → (terms past).generation 0 ≡ (terms past).bus) → ((line : ℕ) (event : Event) → Small (asked line event ∷ past) → Small past) → (AreKept past → (terms past).generation 0 ≡ (terms past).bus → Small past → AreLive) → Lives Small now
-  turn_lives AreLive latest past now (goes old new below is ends turned) p bus first still live =
-      subst (Lives Small) ends
-      (turned_lives AreLive latest old below
+  pub turn_lives : (Goes : Type 0) (latest : ℕ) (past now : List Moment) → TurnSays may Goes latest past now → Lives may Small past → (terms past).bus ≡ latest → ((terms past).bus ≡ 0 → (terms past).generation 0 ≡ (terms past).bus) → ((line : ℕ) (event : Event) → Small (asked line event ∷ past) → Small past) → (AreKept past → (terms past).generation 0 ≡ (terms past).bus → Small past → Goes) → Lives may Small now
+  turn_lives Goes latest past now (goes old new below is ends turned) p bus first still live =
+      subst (Lives may Small) ends
+      (turned_lives Goes latest old below
       (record {
-        lives = subst (Lives Small) (sym is) p;
+        lives = subst (Lives may Small) (sym is) p;
         latest_is = subst (λ ms. (terms ms).bus ≡ latest) (sym is) bus;
         first = subst (λ ms. (terms ms).bus ≡ 0 → (terms ms).generation 0 ≡ (terms ms).bus) (sym is) first;
-        live = subst (λ ms. AreKept ms → (terms ms).generation 0 ≡ (terms ms).bus → Small ms → AreLive) (sym is) live;
+        live = subst (λ ms. AreKept ms → (terms ms).generation 0 ≡ (terms ms).bus → Small ms → Goes) (sym is) live;
       })
       new turned)
-  turn_lives AreLive latest past now (asks line event new ends turned) p bus first still live =
+  turn_lives Goes latest past now (asks line event new ends turned) p bus first still live =
       let same = opens event (terms past) in
       let level = moment_generation 0 (asked line event) past refl in
-      subst (Lives Small) ends
-      (turned_lives AreLive latest [] (asked line event ∷ past)
+      subst (Lives may Small) ends
+      (turned_lives Goes latest [] (asked line event ∷ past)
       (record {
         lives = asked_lives line event past p;
         latest_is = same ∙ bus;

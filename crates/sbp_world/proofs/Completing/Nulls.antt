@@ -6,7 +6,8 @@ use Rattle.sbp_world.proofs.Words.Laws.{EachMoment, IsRead, Orb, access_in, prep
 use Rattle.sbp_world.proofs.Words.World.{AllBring, AnswersAt, Brings, IsCalm, IsResponse, Remains, after, after_all, beginning, begun, history_of, more_deliveries, next_of}
 use Rattle.bus_memory.specs.declared.window.Window.TheVariants as windows
 use Rattle.sbp_journal.specs.declared.note.Note.TheVariants as notes
-use Rattle.sbp_world.specs.Completing.Nulls.{AllNullsLast, IsNull, IsNullGot, NullsLaw, WasLast, of_orb, of_pointer}
+use Rattle.sbp_world.specs.Completing.Bells.{AllNullsThen, NullsThenLaw, WasLastThen}
+use Rattle.sbp_world.specs.Completing.Nulls.{AllNullsLast, IsNull, IsNullGot, NullsLaw, of_orb, of_pointer}
 use Rattle.sbp_world.proofs.Common.{moment_joined}
 use Rattle.sbp_world.proofs.Hosts.Carrying.{carries_law}
 use Rattle.sbp_world.proofs.Hosts.Remaining.{remains}
@@ -106,7 +107,7 @@ module _ (final : List Moment) (i count : ℕ) (inside : i < count) (calm : IsCa
     Brought = Brings final i serial request x.access x.bytes
 
     module _ (front earlier : List Moment) (split : front ++ earlier ≡ final) (young : (terms earlier).count < request) where
-      behind : (b : Brought) → WasNull b.before → WasLast earlier final i slot
+      behind : (b : Brought) → WasNull b.before → WasLastThen earlier final i slot request
       behind b n = by (either (b.later ++ said (notes.Got request) ∷ []) front b.before earlier (moment_joined b.later (said (notes.Got request)) b.before ∙ (b.is ∙ sym split)))
         where
           counts : SerialsCount b.before
@@ -118,21 +119,24 @@ module _ (final : List Moment) (i count : ℕ) (inside : i < count) (calm : IsCa
           sent_then : request ≤ (terms b.before).count
           sent_then = sent_below b.before request read.0 counts read_there
 
-          by : IsBehind b.before earlier ⊎ IsBehind earlier b.before → WasLast earlier final i slot
+          by : IsBehind b.before earlier ⊎ IsBehind earlier b.before → WasLastThen earlier final i slot request
           by (inl y) =
               let more = (remains y.more b.before (subst SerialsCount (sym y.is) (serials_from front earlier (subst SerialsCount (sym split) told.counts)))).count in
               let same : (terms (y.more ++ b.before)).count ≡ (terms earlier).count = ap (λ ms. (terms ms).count) y.is in
               absurd (omega (arith, more, same, young, sent_then))
           by (inr y) = record {
-            later = b.later ++ said (notes.Got request) ∷ [];
-            since = y.more;
-            is = ap (λ ms. (b.later ++ said (notes.Got request) ∷ []) ++ ms) y.is ∙ (moment_joined b.later (said (notes.Got request)) b.before ∙ b.is);
-            one = n.one;
-            prepared = ap (λ ms. prepared_in ms i slot) y.is ∙ n.prepared;
-            last = subst (λ ms. linked ms i n.one.list ≤ suc n.one.number) (sym y.is) (last_one b.before i n.one.list n.one.number n.null);
+            was = record {
+              later = b.later ++ said (notes.Got request) ∷ [];
+              since = y.more;
+              is = ap (λ ms. (b.later ++ said (notes.Got request) ∷ []) ++ ms) y.is ∙ (moment_joined b.later (said (notes.Got request)) b.before ∙ b.is);
+              one = n.one;
+              prepared = ap (λ ms. prepared_in ms i slot) y.is ∙ n.prepared;
+              last = subst (λ ms. linked ms i n.one.list ≤ suc n.one.number) (sym y.is) (last_one b.before i n.one.list n.one.number n.null);
+            };
+            sent = subst (λ ms. request ≤ (terms ms).count) (sym y.is) sent_then;
           }
 
-      was_last : IsNull x.access slot (answer_in (packet_at (terms past) serial)) x.bytes → WasLast earlier final i slot
+      was_last : IsNull x.access slot (answer_in (packet_at (terms past) serial)) x.bytes → WasLastThen earlier final i slot request
       was_last (of_orb r e null) =
           let b : Brought = bring serial request x.access x.bytes (responds 32 r e) in
           let holds = b.served.orb slot small r in
@@ -142,20 +146,29 @@ module _ (final : List Moment) (i count : ℕ) (inside : i < count) (calm : IsCa
           let holds = b.served.pointer slot small r in
           behind b (record { one = holds.one; prepared = holds.prepared; null = sym holds.next ∙ null })
 
-  pub nulls_last : AllNullsLast final i
-  nulls_last later past slot serial request small at x front earlier split young = was_last later past slot serial request small at x front earlier split young x.brings
+  pub nulls_then : AllNullsThen final i
+  nulls_then later past slot serial request small at x front earlier split young = was_last later past slot serial request small at x front earlier split young x.brings
 
-pub nulls_law : NullsLaw
-nulls_law = record {
+pub nulls_then_law : NullsThenLaw
+nulls_then_law = record {
   after_lines = λ line run r has small size tame i inside calm.
       let past = history_of line run in
       let so_far = closing.before open_lists_law line run r has small size tame in
       let within : i < run.initiators = subst (λ n. i < n) (count_after run run.entries) inside in
-      nulls_last past i (length (after (beginning run) run.entries).world.initiators) inside calm (carries_law.carries line run r i within) (told_everywhere.after_lines line run r has small size so_far) (honest_everywhere.after_lines line run r has small size so_far);
+      nulls_then past i (length (after (beginning run) run.entries).world.initiators) inside calm (carries_law.carries line run r i within) (told_everywhere.after_lines line run r has small size so_far) (honest_everywhere.after_lines line run r has small size so_far);
   between = λ line run r has small size next most told m tame i inside calm.
       let w = (after_all told (begun (after (beginning run) run.entries))).world in
       let now = map said w.fresh ++ asked next (more_deliveries most) ∷ history_of line run in
       let so_far = closing.between open_lists_law line run r has small size next (more_deliveries most) (more_than_one most) told m tame in
       let within : i < run.initiators = subst (λ n. i < n) (count_between told (after (beginning run) run.entries) ∙ count_after run run.entries) inside in
-      nulls_last now i (length w.initiators) inside calm (carries_law.between line run r next (more_deliveries most) told (delivering told most) m i within) (told_everywhere.between line run r has small size next most told m so_far) (honest_everywhere.between line run r has small size next most told m so_far);
+      nulls_then now i (length w.initiators) inside calm (carries_law.between line run r next (more_deliveries most) told (delivering told most) m i within) (told_everywhere.between line run r has small size next most told m so_far) (honest_everywhere.between line run r has small size next most told m so_far);
+}
+
+all_last : (now : List Moment) (i : ℕ) → AllNullsThen now i → AllNullsLast now i
+all_last now i h later past slot serial request small at x front earlier split young = (h later past slot serial request small at x front earlier split young).was
+
+pub nulls_law : NullsLaw
+nulls_law = record {
+  after_lines = λ line run r has small size tame i inside calm. all_last (history_of line run) i (nulls_then_law.after_lines line run r has small size tame i inside calm);
+  between = λ line run r has small size next most told m tame i inside calm. all_last _ i (nulls_then_law.between line run r has small size next most told m tame i inside calm);
 }

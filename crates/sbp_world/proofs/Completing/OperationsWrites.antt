@@ -60,7 +60,7 @@ LabelsGo now i s t = (r : Running) (u : Underway) → t.operation ≡ Some r →
 
 -- ---- it stays complete
 grown : (m : Moment) (past : List Moment) (n : ℕ) → WasCompleted past n → WasCompleted (m ∷ past) n
-grown m past n w = record { later = m ∷ w.later; before = w.before; got = w.got; is = ap (λ ms. m ∷ ms) w.is; closed = w.closed; code = w.code; judged = w.judged }
+grown m past n w = record { later = m ∷ w.later; before = w.before; got = w.got; is = ap (λ ms. m ∷ ms) w.is; closed = w.closed; code = w.code; judged = w.judged; asking = w.asking; asked = w.asked; of = w.of; begun = w.begun; current = w.current; given = w.given }
 
 told_grown : (told : List Side) (past : List Moment) (n : ℕ) → AreTame told → WasCompleted past n → WasCompleted (behind told past) n
 told_grown [] past n tame w = w
@@ -243,6 +243,12 @@ module _ (ready : Bool) (start : List Disk) (i : ℕ) (s : InitiatorState) (owne
                 ap (λ (q : Sending). rcode_of q.bytes) (same_Some packet heard.packet (sym sent ∙ heard.sent)) ∙ ap rcode_of heard.bytes_are
                 ∙ complete_rcode bytes value p spelled e;
             judged = subst (λ n. 0 < (terms past).news n) (sym first_is) (answer value e).news;
+            asking = (answer value e).packet;
+            asked = ap (terms past).sent first_is ∙ (answer value e).sent;
+            of = transaction ((terms past).generation (suc i)) (suc i) 0 label.number;
+            begun = (answer value e).begun;
+            current = (answer value e).current ∙ sym first_is;
+            given = (answer value e).given;
           }))
 
       closes_so : t.1.operation ≡ Some r → t ≡ ended_step (purposes.Management r.act) (ending_of p) empty_outbox (called (record s { layer = l })) → HasLabel t.1 (purposes.Management r.act) ⊎ WasCompleted later u.first

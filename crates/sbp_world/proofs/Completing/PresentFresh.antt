@@ -102,7 +102,7 @@ module _ (i : ℕ) where
   low_by past j n true false y e l = l
   low_by past j n false x y e l = l
 
-  low : (past : List Moment) → Rises past → (n : ℕ) → begun_in past i n ≤ own past
+  pub low : (past : List Moment) → Rises past → (n : ℕ) → begun_in past i n ≤ own past
   low [] r n = omega arith
   low (asked line event ∷ past) r n =
       let l = low past r.1 n in
@@ -126,7 +126,7 @@ module _ (i : ℕ) where
   age_by past j m n value true false y e f l first = refl
   age_by past j m n value false x y e f l first = refl
 
-  ages : (later before : List Moment) (n : ℕ) → n < lists before i → EachMoment (MayStand i) (later ++ before) → begun_in (later ++ before) i n ≡ begun_in before i n
+  pub ages : (later before : List Moment) (n : ℕ) → n < lists before i → EachMoment (MayStand i) (later ++ before) → begun_in (later ++ before) i n ≡ begun_in before i n
   ages [] before n l a = refl
   ages (asked line event ∷ later) before n l a = ages later before n l a.1
   ages (said (notes.Append j m k cdb buffer) ∷ later) before n l a =

@@ -19,7 +19,7 @@ sent_one (said (notes.Sent s generation from to bytes)) past a = a.1
 sent_one (said note) past a = a
 sent_one (asked line event) past a = a
 
-sent_from : (later before : List Moment) → AreSent (later ++ before) → AreSent before
+pub sent_from : (later before : List Moment) → AreSent (later ++ before) → AreSent before
 sent_from [] before a = a
 sent_from (m ∷ later) before a = sent_from later before (sent_one m (later ++ before) a)
 

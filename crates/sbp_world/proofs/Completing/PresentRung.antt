@@ -47,11 +47,11 @@ all_on : (m : Moment) (past : List Moment) (i : ℕ) → ((n : ℕ) → rung (m 
 all_on m past i same a n l = written_on m past i n (a n (subst (λ k. 0 < k) (same n) l))
 
 -- ---- what leaves how many are rung
-other_rung : (j m k i n : ℕ) (past : List Moment) (b : Bool) → nat_eq i j ≡ b → b ≡ false → cond b (cond (nat_eq n m) (max (rung past j m) (suc k)) (rung past i n)) (rung past i n) ≡ rung past i n
+pub other_rung : (j m k i n : ℕ) (past : List Moment) (b : Bool) → nat_eq i j ≡ b → b ≡ false → cond b (cond (nat_eq n m) (max (rung past j m) (suc k)) (rung past i n)) (rung past i n) ≡ rung past i n
 other_rung j m k i n past false e f = refl
 other_rung j m k i n past true e f = untrue (sym f)
 
-apart_rung : (note : Note) (past : List Moment) (i : ℕ) → is_apart i note ≡ true → (n : ℕ) → rung (said note ∷ past) i n ≡ rung past i n
+pub apart_rung : (note : Note) (past : List Moment) (i : ℕ) → is_apart i note ≡ true → (n : ℕ) → rung (said note ∷ past) i n ≡ rung past i n
 apart_rung (notes.Rung j m k) past i e n = other_rung j m k i n past (nat_eq i j) refl (not_so (nat_eq i j) e)
   where
     not_so : (b : Bool) → not b ≡ true → b ≡ false
@@ -59,7 +59,7 @@ apart_rung (notes.Rung j m k) past i e n = other_rung j m k i n past (nat_eq i j
     not_so true f = untrue f
 apart_rung note past i e n = refl
 
-note_rung : (note : Note) (past : List Moment) (i n : ℕ) → is_step note ≡ false → rung (said note ∷ past) i n ≡ rung past i n
+pub note_rung : (note : Note) (past : List Moment) (i n : ℕ) → is_step note ≡ false → rung (said note ∷ past) i n ≡ rung past i n
 note_rung (notes.Rung j m k) past i n e = untrue (sym e)
 note_rung note past i n e = refl
 
@@ -81,24 +81,24 @@ all_told (sides.Cleared unit ∷ told) past i u a = absurd u.0
 all_told (sides.Unsolicited place ∷ told) past i u a = absurd u.0
 all_told (sides.Unsent place ∷ told) past i u a = absurd u.0
 
-judged_rung : (serial : ℕ) (judged : Judged) (past : List Moment) (i n : ℕ) → rung (said (judged_note serial judged) ∷ past) i n ≡ rung past i n
+pub judged_rung : (serial : ℕ) (judged : Judged) (past : List Moment) (i n : ℕ) → rung (said (judged_note serial judged) ∷ past) i n ≡ rung past i n
 judged_rung serial judgements.Got past i n = refl
 judged_rung serial (judgements.Ignored cause) past i n = refl
 
 -- ---- an action
 -- the notes of an action, which are of its initiator
-abbrev AllOfOther : ℕ → List Note → Type 0
+abbrev pub AllOfOther : ℕ → List Note → Type 0
 AllOfOther j [] = Unit {0}
 AllOfOther j (note ∷ ns) = (is_apart j note ≡ true) × AllOfOther j ns
 
-of_other : (j i : ℕ) → (j == i) ≡ false → not (j == i) ≡ true
+pub of_other : (j i : ℕ) → (j == i) ≡ false → not (j == i) ≡ true
 of_other j i e = ap not e
 
 links_of_other : (j i n k m : ℕ) → not (j == i) ≡ true → AllOfOther j (link_notes i n k ++ notes.Rung i n m ∷ [])
 links_of_other j i n zero m e = (e, tt)
 links_of_other j i n (suc k) m e = (e, (e, (e, tt)))
 
-acts_of_other : (action : Action) (past : List Moment) (j i : ℕ) → not (j == i) ≡ true → AllOfOther j (action_notes action past i)
+pub acts_of_other : (action : Action) (past : List Moment) (j i : ℕ) → not (j == i) ≡ true → AllOfOther j (action_notes action past i)
 acts_of_other (actions.Put cmd) past j i e = (e, tt)
 acts_of_other (actions.Append cmd) past j i e = (e, links_of_other j i (new_list past i) (new_number past i) (new_number past i) e)
 acts_of_other actions.Low past j i e = (e, tt)
@@ -219,7 +219,7 @@ module _ (action : Action) (s : InitiatorState) (m : rings action ≡ true) wher
   judged_sends (Some number) e n = some_none number e
   judged_sends None e n = demanded_sends (demand_of action s) refl e n
 
-  ring_sends : (act_step action empty_outbox s).0 ≡ None → (act_step action empty_outbox s).1.0.packets ≡ [] → ⊥
+  pub ring_sends : (act_step action empty_outbox s).0 ≡ None → (act_step action empty_outbox s).1.0.packets ≡ [] → ⊥
   unfolding act_step
   ring_sends e n = judged_sends (refusal action (facts_with true s action)) e n
 
@@ -238,7 +238,7 @@ module _ (s : InitiatorState) (none : s.lists.slots.present ≡ None) where
   judged_none (Some number) = refl
   judged_none None = demanded_none (demand_of actions.Ring s) refl
 
-  ring_none : (act_step actions.Ring empty_outbox s).1.0.sides ≡ []
+  pub ring_none : (act_step actions.Ring empty_outbox s).1.0.sides ≡ []
   unfolding act_step
   ring_none = judged_none (refusal actions.Ring (facts_with true s actions.Ring))
 

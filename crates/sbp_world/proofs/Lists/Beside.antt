@@ -9,7 +9,7 @@ use Rattle.sbp_world.proofs.Lists.IdsNoted.{more_entries}
 use Rattle.sbp_world.proofs.Lists.OwnFifos.{tame_before}
 use Rattle.sbp_world.proofs.Lists.StatusKnown.{each_from}
 
-few_back : (later past : List Moment) → FewLogins (later ++ past) → FewLogins past
+pub few_back : (later past : List Moment) → FewLogins (later ++ past) → FewLogins past
 few_back later past few = let l = more_entries [] later past in omega (arith, l, few)
 
 pub tame_or_few_before : (later past : List Moment) → IsTameOrFew (later ++ past) → IsTameOrFew past

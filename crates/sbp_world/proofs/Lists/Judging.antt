@@ -28,7 +28,7 @@ module _ (r : ℕ) where
   quiet_news (notes.TimedOut s) past q = ap (λ (f : ℕ → ℕ). f r) (times_out_same r (begun_in ((terms past).sent s)) (terms past))
   quiet_news note past q = refl
 
-  all_quiet : (front : List Note) (past : List Moment) → AllQuiet front → (terms (map said front ++ past)).news r ≡ (terms past).news r
+  pub all_quiet : (front : List Note) (past : List Moment) → AllQuiet front → (terms (map said front ++ past)).news r ≡ (terms past).news r
   all_quiet [] past q = refl
   all_quiet (note ∷ front) past q = quiet_news note (map said front ++ past) q.0 ∙ all_quiet front past q.1
 

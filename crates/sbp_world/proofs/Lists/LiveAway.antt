@@ -171,7 +171,7 @@ pub data Steady (i : ℕ) (event : Option Event) : Type 0 where
   no_act : IsNoAct i event → Steady i event
   begins_none : (action : Action) → event ≡ Some (events.Act i action) → operation_of action ≡ None → Steady i event
 
-sent_goes : (serial generation from to : ℕ) (bytes : List ℕ) (past : List Moment) (i : ℕ) → Steady i (event_of past) → Goes (host_at past i) (host_at (said (notes.Sent serial generation from to bytes) ∷ past) i)
+pub sent_goes : (serial generation from to : ℕ) (bytes : List ℕ) (past : List Moment) (i : ℕ) → Steady i (event_of past) → Goes (host_at past i) (host_at (said (notes.Sent serial generation from to bytes) ∷ past) i)
 sent_goes serial generation from to bytes past i (no_act n) = sent_first serial generation from to bytes past i n
 sent_goes serial generation from to bytes past i (begins_none action line none) = acting_first serial generation from to bytes past i action line none
 

@@ -100,6 +100,10 @@ module _ (n : ℕ) (few : n ≤ 4) (units : ℕ) (small : units ≤ 4) (line : �
     pub ready_has : HasLogin places (0xffc1 + i) (i + 1)
     ready_has = record { place = i; login = first_login i; there = row_at n 0 (8 - n) i l ∙ ap (λ x. Some (first_login x)) (let e : 0 + i ≡ i = omega arith in e); live = refl; of_node = node_of i; own = refl }
 
+    pub ready_place : ready_has.place ≡ i
+    unfolding ready_has
+    ready_place = refl
+
     ready_claims : ClaimsOf start past (world true) i
     unfolding new_state
     ready_claims =
@@ -150,7 +154,7 @@ module _ (n : ℕ) (few : n ≤ 4) (units : ℕ) (small : units ≤ 4) (line : �
       by false = out_lives past i inside
 
   -- no operation is under way
-  first_none : (is_ready : Bool) (i : ℕ) → i < n → (initiator_at (world is_ready) i).operation ≡ None
+  pub first_none : (is_ready : Bool) (i : ℕ) → i < n → (initiator_at (world is_ready) i).operation ≡ None
   unfolding new_state
   first_none is_ready i l = ap (λ (x : InitiatorState). x.operation) (state_is is_ready i l)
 

@@ -361,7 +361,7 @@ module _ (placed : PlacedTurns) (stored : StoredTurns) (buffers : BufferTurns) w
           by (inl old) = stays_buffered same orb bytes old e running is login
           by (inr n) = fresh (login_response (response_of running (initiator_at v i))) (((target_grants bus same told (sym bus.zero ∙ n.0 ∙ bus.own) call).told orb bytes x e).logs_in running is login)
 
-      turn_buffer : TurnOf i w (base_of g) v → Buffered (initiator_at v i)
+      pub turn_buffer : TurnOf i w (base_of g) v → Buffered (initiator_at v i)
       turn_buffer (by_target bus same call) = target_buffer bus same call (told_in call)
       turn_buffer (by_clearing x same told) = λ orb bytes y e running is login. stays_buffered same orb bytes (old_told x told orb bytes y) e running is login
       turn_buffer (by_own bus same call away) = own_buffer bus same call away (ended bus same call away)

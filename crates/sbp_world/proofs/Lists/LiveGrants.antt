@@ -2,7 +2,7 @@
 -- response in its buffer names, with the base of the agent of a place; or that of the login which its host has. So it is from the decision on.
 use Rattle.sbp_world.proofs.Words.Std.{arith, ◌≡◌, ◌∙◌, refl, sym, ap, subst, ◌⊎◌, inl, inr, ℕ, ◌^◌, ◌<◌, ◌≤◌, ◌==◌, nat_eq, Bool, true, false, List, length, take, Option, Some, None, nat_tests}
 use Rattle.sbp_world.proofs.Words.Wire.{LabelParts, Packet, judging_step, of_response}
-use Rattle.sbp_world.proofs.Words.Target.{Login, IsTable, Table, entered, Response, Operation, Status, agent_base, asked_by, decide, granted_hold, response_bytes, Enters, Returns, cut_response, status_block, function_of, NodeState, answer_in}
+use Rattle.sbp_world.proofs.Words.Target.{Login, IsTable, Table, place_at, entered, Response, Operation, Status, agent_base, asked_by, decide, granted_hold, response_bytes, Enters, Returns, cut_response, status_block, function_of, NodeState, answer_in}
 use Rattle.sbp_world.proofs.Words.Initiator.{start_of, LoginResponse, ManagementOrb, login_bytes, login_response, write_failure, Running, InitiatorState, response_of}
 use Rattle.sbp_world.proofs.Words.World.{AreSame, is_written, HasLogin, HasBase}
 use Rattle.bus_memory.specs.declared.window.Window.TheVariants as windows
@@ -25,10 +25,11 @@ use Rattle.sbp_world.proofs.Lists.LiveTables.{same_has}
 use Rattle.sbp_world.proofs.Lists.LiveTargets.{IsWrittenNow}
 use Rattle.sbp_world.proofs.Sessions.Decisions.{take_none}
 
--- a response names a live login of a node, and has the base of the agent of a place
+-- a response names a live login of a node, and has the base of the agent of its place
 pub record Names (places : List (Option Login)) (id : ℕ) (response : LoginResponse) : Type 0 where
   pub has : HasLogin places id response.login
   pub based : HasBase response
+  pub same : based.place ≡ has.place
 
 -- what a response that is written grants, by the operation that its initiator has under way, and the number of the login of its host
 pub record Responded (places : List (Option Login)) (id own : ℕ) (bytes : List ℕ) (s : InitiatorState) : Type 0 where
@@ -126,6 +127,7 @@ module _ (orb : ManagementOrb) (source eui : ℕ) (t : Table) (keys : List (List
             own = sym (ap (λ (xs : List ℕ). (login_response xs).login) written ∙ login_back own (omega (arith, most)));
           };
           based = record { place = enters.place; small = below; base = ap (λ (xs : List ℕ). (login_response xs).agent) written ∙ agent_back own (base_small enters.place below) };
+          same = refl;
         }
 
   -- a reconnect
@@ -149,7 +151,7 @@ module _ (id own : ℕ) (Active Acts : Type 0) (Tells Waits : ℕ → List ℕ �
 
   module _ (k : AreSame id before after) where
     names_same : {response : LoginResponse} → Names before id response → Names after id response
-    names_same {response} n = record { has = same_has id before after k response.login n.has; based = n.based }
+    names_same n = record { has = record { place = n.has.place; login = n.has.login; there = k.keeps n.has.place n.has.login n.has.there n.has.live n.has.of_node; live = n.has.live; of_node = n.has.of_node; own = n.has.own }; based = n.based; same = n.same }
 
     responded_same : {bytes : List ℕ} → Responded before id own bytes s → Responded after id own bytes s
     responded_same r = record { logs_in = λ running is e. names_same (r.logs_in running is e); long = r.long; comes_back = λ running is e. same_has id before after k own (r.comes_back running is e) }
@@ -236,18 +238,19 @@ module _ (id own : ℕ) (Active Acts : Type 0) (Tells Waits : ℕ → List ℕ �
       left_there = subst IsTable d.left_is left
 
       has_here : {number : ℕ} → HasLogin D.1.places d.on.source number → HasLogin after id number
-      has_here {number} h = subst (λ (t : Table). HasLogin t.places id number) (sym d.left_is) (subst (λ n. HasLogin D.1.places n number) id_is h)
+      has_here h = record { place = h.place; login = h.login; there = ap (λ (t : Table). place_at t.places h.place) d.left_is ∙ h.there; live = h.live; of_node = h.of_node ∙ id_is; own = h.own }
 
       module _ (fifo : ℕ) (phase : op.phase ≡ phases.Response fifo) where
         decided_good : D.0.status ≡ statuses.NoFault
         decided_good = good d.on.orb d.on.source d.on.eui node.logins node.keys sound (out.response fifo phase).1
 
         decided_responded : Responded after id own now.manager.outgoing s
+        unfolding has_here
         decided_responded = record {
           logs_in = λ running is e.
               let x = e_is.login running is e in
               let n = names d.on.orb d.on.source d.on.eui node.logins node.keys sound x.0 x.1 decided_good left_there in
-              subst (λ (xs : List ℕ). Names after id (login_response xs)) (sym (out.response fifo phase).0) (record { has = has_here n.has; based = n.based });
+              subst (λ (xs : List ℕ). Names after id (login_response xs)) (sym (out.response fifo phase).0) (record { has = has_here n.has; based = n.based; same = n.same });
           long = λ running is e.
               let x = e_is.login running is e in
               ap (λ (xs : List ℕ). length xs) (out.response fifo phase).0 ∙ long_response d.on.orb d.on.source d.on.eui node.logins node.keys sound x.0 x.1 decided_good;

@@ -8,12 +8,12 @@ use Rattle.sbp_journal.specs.declared.note.Note.TheVariants as notes
 use Rattle.sbp_world.proofs.Lists.OpenTurns.{listing_up}
 
 -- ---- when a packet was got first
-record WasGot (past : List Moment) (serial i address : ℕ) (packet : Option Sending) (list : Option ℕ) : Type 0 where
-  later : List Moment
-  earlier : List Moment
-  is : later ++ said (notes.Got serial) ∷ earlier ≡ past
-  sent : (terms earlier).sent serial ≡ packet
-  list_is : list ≡ list_in (named_in earlier i (slot_of address))
+pub record WasGot (past : List Moment) (serial i address : ℕ) (packet : Option Sending) (list : Option ℕ) : Type 0 where
+  pub later : List Moment
+  pub earlier : List Moment
+  pub is : later ++ said (notes.Got serial) ∷ earlier ≡ past
+  pub sent : (terms earlier).sent serial ≡ packet
+  pub list_is : list ≡ list_in (named_in earlier i (slot_of address))
 
 none_got : {A : Type 0} (packet : Option Sending) (list : Option ℕ) → None ≡ as_got packet list → A
 none_got packet list e = absurd (let no : None ≡ as_got packet list = e in cc)
@@ -44,7 +44,7 @@ got_note : (note : Note) (past : List Moment) (s i address : ℕ) (packet : Opti
 got_note (notes.Got serial) past s i address packet list e rest = got_here serial s i address past packet list (nat_eq s serial) (nat_eq ((terms past).news serial) 0) refl e rest
 got_note note past s i address packet list e rest = one_more (said note) past s i address packet list (rest e)
 
-got_found : (past : List Moment) (s i address : ℕ) (packet : Option Sending) (list : Option ℕ) → got_as past s i address ≡ as_got packet list → WasGot past s i address packet list
+pub got_found : (past : List Moment) (s i address : ℕ) (packet : Option Sending) (list : Option ℕ) → got_as past s i address ≡ as_got packet list → WasGot past s i address packet list
 got_found [] s i address packet list e = none_got packet list e
 got_found (asked line event ∷ past) s i address packet list e = one_more (asked line event) past s i address packet list (got_found past s i address packet list e)
 got_found (said note ∷ past) s i address packet list e = got_note note past s i address packet list e (λ f. got_found past s i address packet list f)
@@ -54,7 +54,7 @@ module _ (past : List Moment) (w : WorldState) (i : ℕ) (o : AreOpenFor (view p
   is_up : (place : ℕ) → is_open_at w place ≡ true → initiator_in w place ≡ i → IsUp w i place
   is_up place open_there own = record { up = listing_up (machine_at w place).phase open_there; own = own }
 
-  has_list : (place : ℕ) → (f : IsOpenFor (view past i) i place (holder w place).list) → (holder w place).list ≡ Some f.list
+  pub has_list : (place : ℕ) → (f : IsOpenFor (view past i) i place (holder w place).list) → (holder w place).list ≡ Some f.list
   has_list place f =
       let g = got_found past f.serial i f.address (Some f.packet) (holder w place).list f.named in
       let n = names g.later g.earlier f.serial f.packet place f.address g.is g.sent f.at in

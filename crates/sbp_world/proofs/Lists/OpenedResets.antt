@@ -28,7 +28,7 @@ pub record IsQuadlet (q : Packet) (at : ℕ) : Type 0 where
   pub is : q ≡ write_quadlet header offset value
   pub offset_is : offset ≡ at
 
-quadlet_of : (q : Packet) (a : Access) → access_of q ≡ Some a → a.is_write ≡ true → a.is_block ≡ false → IsQuadlet q a.offset
+pub quadlet_of : (q : Packet) (a : Access) → access_of q ≡ Some a → a.is_write ≡ true → a.is_block ≡ false → IsQuadlet q a.offset
 quadlet_of (write_quadlet header offset value) a e w b = record { header = header; offset = offset; value = value; is = refl; offset_is = ap (λ (x : Access). x.offset) (same_Some _ a e) }
 quadlet_of (write_block header offset payload) a e w b = absurd (false≢true (sym b ∙ sym (ap (λ (x : Access). x.is_block) (same_Some _ a e))))
 quadlet_of (read_quadlet header offset) a e w b = absurd (false≢true (ap (λ (x : Access). x.is_write) (same_Some _ a e) ∙ w))

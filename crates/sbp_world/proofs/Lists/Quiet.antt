@@ -98,7 +98,7 @@ all_told weight [] w q = quiet_none w.fresh
 all_told weight (side ∷ later) w q =
     let v = told weight side w in quiet_then w.fresh v.fresh (told_all weight later v).fresh (one_told weight side w q.0) (all_told weight later v q.1)
 
-handed_quiet : (node weight : ℕ) (outbox : OutboxState) (w : WorldState) → AreQuiet outbox.sides → Quietly w.fresh (handed_out node weight outbox w).fresh
+pub handed_quiet : (node weight : ℕ) (outbox : OutboxState) (w : WorldState) → AreQuiet outbox.sides → Quietly w.fresh (handed_out node weight outbox w).fresh
 handed_quiet node weight outbox w q =
     let v = told_all weight outbox.sides w in quiet_then w.fresh v.fresh (handed_out node weight outbox w).fresh (all_told weight outbox.sides w q) (all_sent node outbox.packets v)
 
@@ -120,7 +120,7 @@ other_quiet (sides.Cleared unit) o = tt
 other_quiet (sides.Unsolicited place) o = tt
 other_quiet (sides.Unsent place) o = tt
 
-others_quiet : (side : List Side) → AreOthers side → AreQuiet side
+pub others_quiet : (side : List Side) → AreOthers side → AreQuiet side
 others_quiet [] o = tt
 others_quiet (one ∷ later) o = (other_quiet one o.0, others_quiet later o.1)
 
@@ -129,7 +129,7 @@ note_quiet (notes.Got serial) h = absurd h
 note_quiet (notes.Ignored serial cause) h = absurd h
 note_quiet note h = tt
 
-own_quiet : (side : List Side) → AreOwn side → AreQuiet side
+pub own_quiet : (side : List Side) → AreOwn side → AreQuiet side
 own_quiet [] h = tt
 own_quiet (sides.Own note ∷ later) h = (note_quiet note h.0.1, own_quiet later h.1)
 own_quiet (sides.Opened a b ∷ later) h = absurd h.0

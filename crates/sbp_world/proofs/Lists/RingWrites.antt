@@ -83,7 +83,7 @@ module _ (action : Action) (s : InitiatorState) (m : rings action ≡ true) wher
   judged_steps (Some number) = tt
   judged_steps None = demanded_steps (demand_of action s)
 
-  act_steps : AreSteps (act_step action empty_outbox s).1.0.sides
+  pub act_steps : AreSteps (act_step action empty_outbox s).1.0.sides
   unfolding act_step
   act_steps = judged_steps (refusal action (facts_with true s action))
 
@@ -92,7 +92,7 @@ begins_login true zero host = refl
 begins_login true (suc k) host = refl
 begins_login false k host = refl
 
-steps_login : (told : List Side) (past : List Moment) (i : ℕ) → AreSteps told → (host_at (behind told past) i).login ≡ (host_at past i).login
+pub steps_login : (told : List Side) (past : List Moment) (i : ℕ) → AreSteps told → (host_at (behind told past) i).login ≡ (host_at past i).login
 steps_login [] past i h = refl
 steps_login (sides.Own (notes.Append j n k cdb buffer) ∷ later) past i h = steps_login later (said (notes.Append j n k cdb buffer) ∷ past) i h.1 ∙ begins_login (nat_eq j i) k (host_at past i)
 steps_login (sides.Own (notes.Low j n k) ∷ later) past i h = steps_login later (said (notes.Low j n k) ∷ past) i h.1

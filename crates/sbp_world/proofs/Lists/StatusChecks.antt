@@ -14,7 +14,7 @@ use Rattle.sbp_journal.specs.declared.note.Note.TheVariants as notes
 use Rattle.sbp_world.specs.Lists.Statuses.{IsTold}
 
 -- ---- checks
-abbrev Row : Sense → Type 0
+abbrev pub Row : Sense → Type 0
 Row sense = (sense.key < 16) × (sense.code < 2 ^ 8) × (sense.qualifier < 2 ^ 8)
 
 abbrev IfRow : Option Sense → Type 0
@@ -146,6 +146,11 @@ end_row : (check failure : Option Sense) → IfRow check → IfRow failure → (
 end_row (Some check) failure h k sense e = subst Row (sym (same_sense sense check e)) h
 end_row None (Some failure) h k sense e = subst Row (same_sense failure sense e) k
 end_row None None h k sense e = absurd (none_sense sense e)
+
+-- a check that a command may end with
+pub may_row : (cdb : List ℕ) (buffer : BufferPlan) (plain : PlainDisk) (place : ℕ) (sense : Sense) → MayEnd (check_of cdb buffer plain place) (failure_of plain.medium.is_bay cdb) (Some sense) → Row sense
+may_row cdb buffer plain place sense may =
+    end_row (check_of cdb buffer plain place) (failure_of plain.medium.is_bay cdb) (check_row cdb buffer plain place) (failure_row (request_of plain.medium.is_bay cdb)) sense may
 
 runs_row : (request : Asked) (plain : PlainDisk) (place : ℕ) (cdb bytes : List ℕ) (sense : Sense) → RunsOn request plain place cdb bytes (Some sense) → Row sense
 runs_row request plain place cdb bytes sense r =

@@ -273,6 +273,20 @@ module _ (ready : Bool) (action : Action) (past : List Moment) (i : ℕ) (s : In
             on serial (register_read response.agent 0x00) (old.states (before u) n serial (old_list g n (told_before g n serial q) l) q response (sym carries ∙ c));
       }
 
+  -- the list that it has then was written to the agent of the session that it had
+  pub points_then : Fit ms → AreUnrefused ms i → (n serial : ℕ) → present_list ms i ≡ Some n → pointed_list ms serial i ≡ Some n → (response : LoginResponse) → carried s.seat ≡ Some response → PointsAt ms i serial response.agent
+  points_then f u n serial l p response c =
+      let k = tame_told t.0.sides past i left.told in
+      let g = k.fit f in
+      let on = requested_on past ms i (λ m b. ap (λ (x : Terms). x.sent m) k.wire) (let y : (terms ms).count ≡ (terms past).count = ap (λ (x : Terms). x.count) k.wire in let z : (terms past).count ≤ (terms ms).count = omega arith in z) in
+      let q : pointed_list past serial i ≡ Some n = sym (ap (λ (x : ℕ → ℕ → Option ℕ). x serial i) (pointed_told t.0.sides past left.told)) ∙ p in
+      let x = (h.agent g).pointer (before u) n serial (was g q (told_lists (action_notes action past i) (told_as past i action) n (ap (λ y. present_list y i) ms_are ∙ l))) q response c in
+      record { address = x.address; is = on serial (pointer_write response.agent x.address) x.is }
+    where
+      was : Fit past → pointed_list past serial i ≡ Some n → (is_list s.lists.slots.present n ≡ true) ⊎ ((n ≡ lists past i) × (prepares action ≡ true)) → is_list s.lists.slots.present n ≡ true
+      was g q (inl y) = y
+      was g q (inr y) = absurd_below n (lists past i) y.0 (begun_before g n serial q)
+
   quiet_session : session_in t.1.seat ≡ session_in s.seat → AreUnrefused ms i → is_some t.1.lists.slots.present ≡ true → is_seated t.1.seat ≡ true
   quiet_session e u p = joined_seated t.1.seat (ap joins (e ∙ live_session s.seat (is_live_now (before u) p)))
 

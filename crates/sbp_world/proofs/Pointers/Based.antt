@@ -26,7 +26,7 @@ use Rattle.sbp_world.proofs.Common.{untrue}
 use Rattle.sbp_world.proofs.Pointers.Naming.{none_some}
 use Rattle.sbp_world.proofs.Agents.AskedPackets.{above}
 
-based_carried : (ready : Bool) → Carries Ready (Based ready)
+pub based_carried : (ready : Bool) → Carries Ready (Based ready)
 based_carried ready = record {
   known = λ line event past i s r. record { rows = r.rows; pin = r.pin; spelled = r.spelled };
   number = λ past i s h. h.guarded.pointed.cored.own.number;
@@ -50,7 +50,7 @@ none_begun line i initiators ready serial {A} r = by ready (nat_lt i initiators)
     by true false e = none_some e
     by false c e = none_some e
 
-first_based : (line i initiators : ℕ) (ready : Bool) → i < initiators → Based ready (said (notes.Begin initiators ready) ∷ asked line (events.Begin initiators ready) ∷ []) i (new_state i ready)
+pub first_based : (line i initiators : ℕ) (ready : Bool) → i < initiators → Based ready (said (notes.Begin initiators ready) ∷ asked line (events.Begin initiators ready) ∷ []) i (new_state i ready)
 unfolding new_state
 first_based line i initiators ready b = record {
   guarded = first_guarded line i initiators ready b;
@@ -69,7 +69,7 @@ some_in : (present : Option PresentList) → is_some (present_in present) ≡ tr
 some_in None e = e
 some_in (Some list) e = refl
 
-asked_of : (past : List Moment) (i serial : ℕ) (access : Access) → Requested past i serial access → IsAsked past i serial access
+pub asked_of : (past : List Moment) (i serial : ℕ) (access : Access) → Requested past i serial access → IsAsked past i serial access
 asked_of past i serial access r = record { packet = r.packet; sent = r.sent; from_is = r.from_is; to_is = r.to_is; honest = r.honest; spelled = r.spelled }
 
 -- a write of ORB_POINTER at an agent, to an address; and to another one

@@ -4,7 +4,7 @@
 use Rattle.std.specs.Prelude.{◌≡◌, ◌<◌, ℕ, true, List, [], ◌∷◌, ◌++◌, length, Some}
 use Rattle.async_packet.specs.Fields.{rcode_of}
 use Rattle.sbp_journal.specs.Run.{Moment, said}
-use Rattle.sbp_journal.specs.Transactions.{Sending}
+use Rattle.sbp_journal.specs.Transactions.{Sending, Transaction, begun_by}
 use Rattle.sbp_journal.specs.Wire.{terms}
 use Rattle.sbp_journal.specs.declared.note.Note.TheVariants as notes
 use Rattle.sbp_laws.specs.Budget.{Lossless}
@@ -27,7 +27,7 @@ abbrev pub NoReadsLaw : Type 0
 NoReadsLaw = Always (AtRest HaveNoReads)
 
 -- ---- operations
--- a request was answered complete, with rcode 0; its receiver had taken it as new
+-- a request was answered complete, with rcode 0; its receiver had taken it as new, and had given that rcode to its transaction
 pub record WasCompleted (past : List Moment) (serial : ℕ) : Type 0 where
   pub later : List Moment
   pub before : List Moment
@@ -36,6 +36,12 @@ pub record WasCompleted (past : List Moment) (serial : ℕ) : Type 0 where
   pub closed : answered_at (terms before) got ≡ Some serial
   pub code : (packet : Sending) → (terms before).sent got ≡ Some packet → rcode_of packet.bytes ≡ 0
   pub judged : 0 < (terms before).news serial
+  pub asking : Sending
+  pub asked : (terms before).sent serial ≡ Some asking
+  pub of : Transaction
+  pub begun : begun_by asking ≡ Some of
+  pub current : (terms before).current of ≡ serial
+  pub given : (terms before).given of ≡ 0
 
 -- the operation of each initiator that has one is of the management agent
 abbrev pub AreOfManagement : List Moment → WorldState → Type 0
