@@ -31,6 +31,6 @@ mod Requests
 mod LineSteps
 mod Scripted
 mod PlainRuns
-mod ScriptRuns
+pub mod ScriptRuns
 pub mod StandingRuns
 mod Tries

@@ -29,7 +29,7 @@ use Rattle.sbp_world.proofs.Hosts.Statuses.Finished.{finished_law}
 use Rattle.retry_queue.specs.declared.line.QueueLine.{QueueLine}
 use Rattle.retry_queue.specs.declared.line.QueueLine.TheVariants.{Bus, Submit, Pump}
 use Rattle.retry_queue.specs.Heard.{HeardAt, Keeps}
-use Rattle.retry_queue.specs.Journals.{IsJournal, MadeAt}
+use Rattle.retry_queue.specs.Journals.{IsJournal}
 use Rattle.retry_queue.specs.Kept.{asked_by, kept, told}
 use Rattle.retry_queue.specs.Lines.{is_bus_line}
 use Rattle.retry_queue.specs.Pump.{pump, row}
@@ -88,16 +88,17 @@ longer : (ws : List Submission) (w : Submission) → length (ws ++ w ∷ []) ≡
 longer [] w = refl
 longer (x ∷ ws) w = ap suc (longer ws w)
 
-count_is : (past : List Step) → length (writes past) ≡ submissions past
-count_is [] = refl
-count_is (submitted lba bytes ∷ past) = longer (writes past) (submission lba bytes) ∙ ap suc (count_is past)
-count_is (_ ∷ past) = count_is past
+-- how many writes a journal has
+pub writes_count : (past : List Step) → length (writes past) ≡ submissions past
+writes_count [] = refl
+writes_count (submitted lba bytes ∷ past) = longer (writes past) (submission lba bytes) ∙ ap suc (writes_count past)
+writes_count (_ ∷ past) = writes_count past
 
 write_is : (past : List Step) (q : ℕ) → slice_get (writes past) q ≡ write_at past q
 write_is [] q = refl
 write_is (submitted lba bytes ∷ past) q =
     at_end (writes past) (submission lba bytes) q
-    ∙ ap (λ n. cond (nat_eq q n) (Some (submission lba bytes)) (slice_get (writes past) q)) (count_is past)
+    ∙ ap (λ n. cond (nat_eq q n) (Some (submission lba bytes)) (slice_get (writes past) q)) (writes_count past)
     ∙ ap (λ before. cond (nat_eq q (submissions past)) (Some (submission lba bytes)) before) (write_is past q)
 write_is (_ ∷ past) q = write_is past q
 
@@ -167,14 +168,6 @@ data IsOfLine (past : List Step) (event : Event) : Type 0 where
 no_begin : (past : List Step) (initiators : ℕ) (ready : Bool) → IsOfLine past (events.Begin initiators ready) → ⊥
 no_begin past initiators ready (of_bus e) = cc e
 no_begin past initiators ready (of_pump p) = let is = p.is in cc is
-
-bus_made : (line : ℕ) (event : Event) (past : List Step) → is_bus_line event ≡ true → MadeAt (of_world (asked line event)) past
-bus_made line (events.Act i action) past e = absurd (cc e)
-bus_made line _ past e = tt
-
-bus_heard : (line : ℕ) (event : Event) (past : List Step) → is_bus_line event ≡ true → HeardAt (of_world (asked line event)) past
-bus_heard line (events.Act i action) past e = absurd (cc e)
-bus_heard line _ past e = tt
 
 bus_allowed : (event : Event) (ns : List Note) → is_bus_line event ≡ true → AllOf is_usual ns → AllOf (allowed event) ns
 bus_allowed (events.Act i action) ns e all = absurd (cc e)

@@ -48,7 +48,7 @@ pub then_fits : {A B : Type 0} (P : B → Type 0) (r : Result A LineFault) (f : 
 then_fits P (Ok a) f k = k a refl
 then_fits P (Err fault) f k = tt
 
-chosen_is : {A : Type 0} (t : Bool) (a b : A) (fault : LineFault) → cond t (Ok a) (Err fault) ≡ Ok b → (t ≡ true) × (a ≡ b)
+pub chosen_is : {A : Type 0} (t : Bool) (a b : A) (fault : LineFault) → cond t (Ok a) (Err fault) ≡ Ok b → (t ≡ true) × (a ≡ b)
 chosen_is true a b fault e = (refl, cc e)
 chosen_is false a b fault e = absurd (cc e)
 
@@ -185,7 +185,7 @@ maybe_segments : (total : ℕ) (word : Option (List ℕ)) → IfOk (segments tot
 maybe_segments total None = record { few = omega arith; whole = omega arith; sums = λ t. absurd (omega arith) }
 maybe_segments total (Some word) = segments_fit total word
 
-max_payload_fits : (word : Option (List ℕ)) (most : ℕ) → max_payload word ≡ Ok most → most ≤ 9
+pub max_payload_fits : (word : Option (List ℕ)) (most : ℕ) → max_payload word ≡ Ok most → most ≤ 9
 max_payload_fits None most e = let same : 9 ≡ most = cc e in omega arith
 max_payload_fits (Some word) most e = (within 0 9 most word e).1
 
@@ -421,12 +421,12 @@ row_begins rows.Inject ws b = absurd (cc b)
 -- ---- lines
 
 -- the row of a line that says an event, and that the line has none of the faults of its row
-record Speaks (line : List ℕ) (n : ℕ) (event : Event) : Type 0 where
-  r : Row
-  place : is_out_of_place n r ≡ false
-  shape : has_shape r n (arguments line) ≡ true
-  names : names_none n event ≡ false
-  is : event_of r (arguments line) ≡ Ok event
+pub record Speaks (line : List ℕ) (n : ℕ) (event : Event) : Type 0 where
+  pub r : Row
+  pub place : is_out_of_place n r ≡ false
+  pub shape : has_shape r n (arguments line) ≡ true
+  pub names : names_none n event ≡ false
+  pub is : event_of r (arguments line) ≡ Ok event
 
 find_none : {A : Type 0} (p : A → Bool) (x : A) (xs : List A) → find p (x ∷ xs) ≡ None → (p x ≡ false) × (find p xs ≡ None)
 find_none p x xs e = elim (p x) as (λ b. p x ≡ b → cond b (Some x) (find p xs) ≡ None → (p x ≡ false) × (find p xs ≡ None)) [
@@ -457,7 +457,7 @@ loud_test : (b t : Bool) → b ≡ false → (not b && t) ≡ false → t ≡ fa
 loud_test true t b e = absurd (cc b)
 loud_test false t b e = e
 
-says_so : (line : List ℕ) (n : ℕ) (event : Event) → reading line n ≡ Ok (Some event) → Speaks line n event
+pub says_so : (line : List ℕ) (n : ℕ) (event : Event) → reading line n ≡ Ok (Some event) → Speaks line n event
 says_so line n event e =
     let t = told_none (find (has_fault line n) order) line event e in
     let l = loud (is_silent line) event (row_event (row line) (arguments line)) t.1 in

@@ -2,6 +2,8 @@ pub mod EventBytes
 pub mod OwnIds
 pub mod Brings
 pub mod Fits
+pub mod Legal
+pub mod LegalScripts
 pub mod Entries
 pub mod Kept
 pub mod ScriptLines

@@ -19,13 +19,10 @@ use Rattle.sbp_world.specs.Runs.{entry, with_entry}
 use Rattle.sbp_world.specs.Worlds.{WorldState}
 use Rattle.sbp_world.proofs.Standing.{begins, goes_on}
 use Rattle.sbp_world.specs.Wire.Lines.{IsLine}
-use Rattle.line_session.specs.Meaning.{Serves}
-use Rattle.line_session.specs.declared.serve.LineError.{LineError}
-use Rattle.line_session.specs.declared.serve.LineError.TheVariants.{Fault, NoMemory}
 use Rattle.script_text.specs.Line.{reading}
 use Rattle.script_text.specs.Script.{initiators_after}
 use Rattle.script_runner.specs.Events.{MayLeave, journal}
-use Rattle.script_runner.specs.Script.{Hears, begun_by, heard, of_lines, says}
+use Rattle.script_runner.specs.Script.{begun_by, heard, of_lines, says}
 use Rattle.script_runner.specs.Runner.{CanGoOn, CanRun, GoesOn, HasBytes, IsBeginning, IsLineIn, MayHappenIn, RanSo, RunnerState, Stands, not_begun, run_meaning, running, scene_of}
 use Rattle.script_runner.proofs.Fits.{line_begins, line_fits, line_is}
 use Rattle.script_runner.proofs.Kept.{happens_keeps, world_count, world_units}
@@ -238,11 +235,3 @@ ran_nothing start media served line text state number e few read h =
       initiators = h.initiators ∙ ap (begun_by 0) (sym behind);
       stands = subst (λ es. Stands start es text state.world media) (sym behind) h.stands;
     }
-
--- a line gave nothing
-pub line_fails : (error : LineError) (start media : Held) (served : List (List ℕ)) (line text : List ℕ) (state after : RunnerState) (number : ℕ) → number ≡ 1 + length served → number ≤ 65536
-    → Hears (Err error) (heard state.initiators line) → RanSo start served text state media
-    → Serves run_meaning (λ fault. says (1 + length served) (begun_by 0 (of_lines served).events) line ≡ Err fault) (Err error) start served line text after media media
-line_fails (Fault fault) start media served line text state after number e few read h =
-    (says-within (1 + length served) (begun_by 0 (of_lines served).events) line (omega arith) ∙ ap (λ n. heard n line) (sym h.initiators) ∙ read, (state, h))
-line_fails NoMemory start media served line text state after number e few read h = run_meaning.stays_same media

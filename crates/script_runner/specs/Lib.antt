@@ -2,3 +2,4 @@ pub mod Script
 pub mod Events
 pub mod Runner
 pub mod Drilling
+pub mod Legal

@@ -12,13 +12,14 @@ use Rattle.sbp_world.specs.Runs.{Entry}
 use Rattle.task_world.specs.Written.{TaskNotesAreWritten}
 use Rattle.task_world.proofs.LineForms.{form_law}
 
-both : (notes : List Note) → AllByRecursion HasForm notes → AllByRecursion IsTyped notes → AllByRecursion IsWritten notes
-both [] h t = tt
-both (note ∷ notes) h t = ((h.0, t.0), both notes h.1 t.1)
+-- notes that have their form and are inside their types are written
+pub all_written : (notes : List Note) → AllByRecursion HasForm notes → AllByRecursion IsTyped notes → AllByRecursion IsWritten notes
+all_written [] h t = tt
+all_written (note ∷ notes) h t = ((h.0, t.0), all_written notes h.1 t.1)
 
 written_in : (entries : List Entry) → AllByRecursion AreForms entries → AllByRecursion AreTyped entries → AllByRecursion IsWritten (notes_behind entries)
 written_in [] h t = tt
-written_in (e ∷ before) h t = all_append IsWritten e.notes (notes_behind before) (both e.notes h.0 t.0) (written_in before h.1 t.1)
+written_in (e ∷ before) h t = all_append IsWritten e.notes (notes_behind before) (all_written e.notes h.0 t.0) (written_in before h.1 t.1)
 
 pub notes_are_written : TaskNotesAreWritten
 notes_are_written run r typed =

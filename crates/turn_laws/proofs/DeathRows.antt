@@ -31,7 +31,8 @@ use Rattle.sbp_laws.specs.Packets.{finds_label}
 use Rattle.sbp_laws.specs.Targets.{Reply, Target, agent_at, initiator_at, login_at, over, plain_for, target_at}
 use Rattle.sbp_laws.specs.Turns.{Turn}
 use Rattle.turn_laws.specs.Ends.{EndsWhereDue}
-use Rattle.turn_laws.proofs.DeathSteps.{FairFor, Has, Row, ahead_lives, main_dies}
+use Rattle.sbp_world.proofs.Completing.DeathsSteps.{ahead_lives}
+use Rattle.turn_laws.proofs.DeathSteps.{FairFor, Has, Row, main_dies}
 use Rattle.turn_laws.proofs.EndTries.{Brought, brings, brought, brought_notes, brought_unsent, dead_in, fails_in, found_by, notes_tried}
 use Rattle.turn_laws.proofs.IdleAheads.{idle_ahead}
 use Rattle.sbp_world.proofs.Common.{none_is}

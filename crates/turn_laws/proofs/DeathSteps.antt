@@ -15,15 +15,11 @@ use Rattle.orb_layout.specs.Pointers.{pointer_at}
 use Rattle.orb_layout.specs.Replies.{Answer, Done, Expired, NoLabel, Payload, Refused, payload_of, write_failure}
 use Rattle.page_table.specs.declared.fault.PageFault.{PageFault}
 use Rattle.page_table.specs.Elements.{elements_of, first_fault}
-use Rattle.rbc_disk.specs.declared.command.Need.{Need}
-use Rattle.rbc_disk.specs.declared.command.Need.TheVariants as needs
-use Rattle.rbc_disk.specs.declared.command.Outcome.{Outcome}
-use Rattle.rbc_disk.specs.declared.command.Outcome.TheVariants as outcomes
-use Rattle.rbc_disk.specs.Runs.{Told, need_of}
+use Rattle.rbc_disk.specs.Runs.{Told}
 use Rattle.rbc_disk.specs.Units.{PlainDisk}
-use Rattle.command_agent.specs.Checks.{death_by, reads_table, refusal, verdict}
-use Rattle.command_agent.specs.Machine.{Machine, chunk_of, is_ahead, plan_of}
-use Rattle.command_agent.specs.Steps.{advanced, ahead_of, ahead_read, ahead_step, answer_chunk, answer_step, asks, check_step, checked, chunk_written, data_grown, data_read, data_step, elements_read, end_step, follow_step, judge_step, judged, next_read, orb_read, passed_step, quiet, ran_as, reply_step, reread_step, run_step, sent, served, status_written, table_read, told_or, turn_step, unread_buffer, wait_step}
+use Rattle.command_agent.specs.Checks.{death_by, refusal, verdict}
+use Rattle.command_agent.specs.Machine.{Machine, chunk_of}
+use Rattle.command_agent.specs.Steps.{advanced, ahead_of, answer_chunk, answer_step, check_step, checked, chunk_written, data_grown, data_read, data_step, elements_read, end_step, follow_step, judge_step, next_read, orb_read, passed_step, quiet, reply_step, reread_step, run_step, sent, served, status_written, table_read, told_or, turn_step, wait_step}
 use Rattle.command_agent.specs.declared.phase.Phase.{Phase}
 use Rattle.command_agent.specs.declared.phase.Phase.TheVariants as phases
 use Rattle.command_agent.specs.declared.phase.ReadAhead.{ReadAhead}
@@ -31,13 +27,14 @@ use Rattle.command_agent.specs.declared.phase.ReadAhead.TheVariants as aheads
 use Rattle.command_agent.specs.declared.step.AgentStep.{AgentStep}
 use Rattle.command_agent.specs.declared.step.Move.{Move}
 use Rattle.command_agent.specs.declared.step.Move.TheVariants as moves
-use Rattle.command_agent.specs.declared.step.Which.TheVariants.{Ahead, Main}
+use Rattle.command_agent.specs.declared.step.Which.TheVariants.{Main}
 use Rattle.agent_laws.specs.Along.Requests.{main_ask}
 use Rattle.sbp_journal.specs.Addresses.{Access}
 use Rattle.sbp_laws.specs.Deaths.{illegal_meaning, is_expired, is_other_length, is_refused, meaning_at, table_meaning}
 use Rattle.sbp_world.proofs.Lists.OrbSteps.{has_read}
 use Rattle.turn_laws.proofs.FailingRows.{MayAnswer}
 use Rattle.sbp_world.proofs.Common.{none_is}
+use Rattle.sbp_world.proofs.Completing.DeathsSteps.{ahead_keeps, either, judge_lives, passed_lives, run_lives}
 use Rattle.sbp_world.proofs.Lists.DataSteps.{done_of}
 
 -- ---- an illegal ORB
@@ -84,34 +81,6 @@ refused_as orb =
 pub illegal_is : (orb : CommandOrb) (aborted : Bool) (meaning : ℕ) → verdict orb aborted ≡ Some (kinds.Illegal meaning) → illegal_meaning orb ≡ Some meaning
 unfolding verdict
 illegal_is orb aborted meaning e = by_format (orb.format == 3) (orb.format == 0) aborted (refusal orb) (fields_meaning orb) meaning (refused_as orb) (ap meaning_in e)
-
--- ---- what a step does but end in death
-either : (b : Bool) (x y : AgentStep × Machine) → x.0.dead ≡ None → y.0.dead ≡ None → (cond b x y).0.dead ≡ None
-either true x y e f = e
-either false x y e f = f
-
-ran_lives : (m : Machine) (outcome : Outcome) → (ran_as m outcome).0.dead ≡ None
-ran_lives m (outcomes.Check sense) = refl
-ran_lives m (outcomes.Good len) = either (len == 0) (end_step m kinds.Good None) (answer_step m) refl refl
-
-run_lives : (m : Machine) (told : Told) → (run_step m told).0.dead ≡ None
-run_lives m told = ran_lives (record m { answer = told.answer; written = 0 }) told.outcome
-
-judged_lives : (m : Machine) (told : Told) (need : Need) → (judged m told need).0.dead ≡ None
-judged_lives m told needs.RunNow = run_lives m told
-judged_lives m told (needs.Payload len) = refl
-
-judge_lives : (m : Machine) (place : ℕ) (plain : PlainDisk) (told : Told) → (judge_step m place plain told).0.dead ≡ None
-judge_lives m place plain told = judged_lives m told (need_of m.orb.cdb (plan_of m) plain place)
-
-passed_lives : (m : Machine) (place : ℕ) (plain : PlainDisk) (told : Told) → (passed_step m place plain told).0.dead ≡ None
-passed_lives m place plain told =
-    either (reads_table m.orb) (asks (Read m.orb.descriptor (8 * m.orb.data_size)), record m { phase = phases.ReadingTable }) (judge_step (record m { segments = unread_buffer m.orb }) place plain told) refl (judge_lives (record m { segments = unread_buffer m.orb }) place plain told)
-
-ahead_keeps : (dead : Option FailCause) (next : OrbPointer) (s : AgentStep × Machine) → (ahead_of dead next s).0.dead ≡ s.0.dead
-ahead_keeps None (pointers.At next) s = refl
-ahead_keeps None pointers.Null s = refl
-ahead_keeps (Some cause) next s = refl
 
 -- ---- the bytes of a read
 pub read_bytes : (answer : Answer) (size : ℕ) (bytes : List ℕ) → payload_of answer size ≡ Ok bytes → (answer ≡ Payload bytes) × ((length bytes == size) ≡ true)
@@ -283,12 +252,3 @@ module _ (m : Machine) (answer : Answer) (access : Option Access) where
   pub main_dies : (place : ℕ) (plain : PlainDisk) (told : Option Told) → FairFor (main_ask m.phase m) answer access → (has_read m.phase ≡ false → m.ahead ≡ aheads.Idle) → Has m.phase (reply_step m place plain told Main answer).0.dead
   unfolding reply_step
   main_dies place plain told fair idle = let r = advanced m.phase m answer in served_has m.phase place plain (told_or told) r (advanced_moves m.phase fair idle)
-
--- and not at a reply to its read ahead
-read_lives : (m : Machine) (bytes : Result (List ℕ) FailCause) → (ahead_read m bytes).0.dead ≡ None
-read_lives m (Ok bytes) = refl
-read_lives m (Err cause) = refl
-
-pub ahead_lives : (m : Machine) (place : ℕ) (plain : PlainDisk) (told : Option Told) (answer : Answer) → (reply_step m place plain told Ahead answer).0.dead ≡ None
-unfolding reply_step
-ahead_lives m place plain told answer = either (is_ahead m.ahead) (ahead_step m answer) (quiet, m) (read_lives m (payload_of answer 32)) refl
