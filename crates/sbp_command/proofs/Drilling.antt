@@ -5,7 +5,7 @@ use Rattle.std.proofs.lemmas.Fmt.{decimal_injective}
 use Rattle.std.proofs.lemmas.Slice.Eq.{bytes_eq-Decides}
 use Rattle.drill_text.specs.Words.{IsDrill}
 use Rattle.sbp_command.specs.declared.status.Status.{Status as CallStatus}
-use Rattle.std.proofs.Common.{◌≡◌, ◌^◌, codes, ◌∙◌, refl, sym, ap, subst, ℕ, ◌<◌, inr, true, false, List, [], ◌∷◌, ◌++◌, Option, Some, None, Ok, Err, append-nil, arith}
+use Rattle.std.proofs.Common.{◌≡◌, ◌^◌, codes, ◌∙◌, refl, sym, ap, subst, ℕ, ◌<◌, ◌≤◌, inr, true, false, List, [], ◌∷◌, ◌++◌, Option, Some, None, Ok, Err, append-nil, arith}
 use Rattle.std.specs.Io.KnownBytes.{Appends}
 use Rattle.rbc_disk.specs.Held.{Held}
 use Rattle.script_text.specs.Drill.{generated}
@@ -16,30 +16,37 @@ use Rattle.line_session.specs.declared.status.Status.TheVariants as stream_statu
 use Rattle.drill_text.specs.Summary.{summary_text}
 use Rattle.drill_text.specs.Tally.{TallyState}
 use Rattle.sbp_command.specs.Drill.{DrillEnds, DrillWrites, RanDrill, SumsFirst}
-use Rattle.sbp_command.specs.Headline.{ListingEnds, RomEnds, RunEnds, UsageEnds, status_of}
+use Rattle.sbp_command.specs.Headline.{ListingEnds, RomEnds, RunEnds, status_of}
 use Rattle.sbp_command.specs.QueueEnds.{QueueEnds}
 use Rattle.sbp_command.specs.Served.{Serves}
 use Rattle.sbp_command.specs.TaskEnds.{TaskEnds}
 use Rattle.script_runner.specs.Events.{events_of, journal, numbered_from}
 use Rattle.script_runner.specs.Drilling.{Drilled}
+use Rattle.script_runner.proofs.LegalScripts.{legal_scripts_law}
 use Rattle.journal_text.proofs.Feeds.{trace_of_text}
 use Rattle.sbp_command.proofs.Completing.{serves}
+use Rattle.sbp_command.proofs.DrillEnds.{drill_ends, drill_tallied}
 use Rattle.sbp_command.proofs.Forms.{has_form}
+use Rattle.sbp_command.proofs.LegalRuns.{run_legal}
 use Rattle.sbp_command.proofs.Wires.{has_run}
 
 -- ---- the summary
 
-pub drill_summed : (seed count : ℕ) (start media now : Held) (tally : TallyState) (disk : Option ℕ) (old output : List ℕ) → Drilled start (generated seed count) tally media → SumsFirst disk media now → old ≡ []
+pub drill_summed : (seed count : ℕ) → 1 ≤ count → count ≤ 10000 → (start media now : Held) (tally : TallyState) (disk : Option ℕ) (old output : List ℕ) → Drilled start (generated seed count) tally media → SumsFirst disk media now → old ≡ []
     → output ≡ old ++ summary_text (record { seed = seed; count = count; tally = tally; disk = disk }) → RanDrill seed count start now output
-drill_summed seed count start media now tally disk old output h s n e =
+drill_summed seed count asked commands start media now tally disk old output h s n e =
     let d = h.done in
     let lines = numbered_from 1 (generated seed count) in
-    let ran = has_run 1 d.run start media h.world lines d.start_is d.units_are d.some d.most d.few (let entries = d.count in let few = h.few in omega (arith, entries, few)) (sym (append-nil (events_of 1 d.run)) ∙ d.events_are) d.stands d.lines d.typed in
+    let events : events_of 1 d.run ≡ lines = sym (append-nil (events_of 1 d.run)) ∙ d.events_are in
+    let ran = has_run 1 d.run start media h.world lines d.start_is d.units_are d.some d.most d.few (let entries = d.count in let few = h.few in omega (arith, entries, few)) events d.stands d.lines d.typed (run_legal 1 d.run lines events (legal_scripts_law.drills 1 seed count)) in
+    let ends = drill_ends seed count asked commands ran in
     record {
       notes = journal d.run;
       media = media;
       disk = disk;
       ran = ran;
+      ends = ends;
+      counts = drill_tallied count ran.line ran.run (journal d.run) ran.notes_are ends;
       trace_is = trace_of_text (journal d.run) (has_form start media lines (journal d.run) ran);
       summed = s;
       output_is = e ∙ ap (λ lines. lines ++ summary_text (record { seed = seed; count = count; tally = tally; disk = disk })) n ∙ ap (λ t. summary_text (record { seed = seed; count = count; tally = t; disk = disk })) d.tally_is;
@@ -158,15 +165,4 @@ serves_drill words seed count status before now d r = serves (record {
   tasks = λ h. other_words words (codes "tasks") seed count h d;
   queue = λ h. other_words words (codes "queue") seed count h d;
   others = λ run drill decode rom tasks queue. absurd (drill seed count d);
-})
-
-pub serves_usage : (words : List (List ℕ)) (status : CallStatus) (before now : Outside) → ¬ (words ≡ codes "run" ∷ []) → ¬ (words ≡ codes "decode" ∷ []) → ¬ (words ≡ codes "rom" ∷ []) → ¬ (words ≡ codes "tasks" ∷ []) → ¬ (words ≡ codes "queue" ∷ []) → ((seed count : ℕ) → ¬ IsDrill words seed count) → UsageEnds status before now → Serves words status before now
-serves_usage words status before now run decode rom tasks queue drill r = serves (record {
-  run = λ h. absurd (run h);
-  drill = λ seed count h. absurd (drill seed count h);
-  decode = λ h. absurd (decode h);
-  rom = λ h. absurd (rom h);
-  tasks = λ h. absurd (tasks h);
-  queue = λ h. absurd (queue h);
-  others = λ a b c d e f. r;
 })

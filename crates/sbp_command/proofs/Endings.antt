@@ -9,23 +9,26 @@ use Rattle.line_session.specs.Ends.{Ends}
 use Rattle.line_session.specs.declared.status.Status.{Status}
 use Rattle.script_text.specs.Script.{Script}
 use Rattle.script_runner.specs.Events.{journal}
+use Rattle.script_runner.specs.Legal.{AreLegalLines}
 use Rattle.script_runner.specs.Script.{begun_by, of_lines}
 use Rattle.script_runner.specs.Runner.{RanSo, RunnerState, Stands, run_meaning}
+use Rattle.script_runner.proofs.LegalScripts.{legal_scripts_law}
 use Rattle.script_runner.proofs.ScriptLines.{events_few, served-next, served-fault, refused-says}
 use Rattle.sbp_command.specs.Headline.{RunEnds, run_command, status_of}
+use Rattle.sbp_command.proofs.LegalRuns.{run_legal}
 use Rattle.sbp_command.proofs.Media.{left_by_notes}
 use Rattle.sbp_command.proofs.Scripts.{GoesOn, IsCommand, Tells, faulty, script_ends}
 use Rattle.sbp_command.proofs.Wires.{entries_few, has_run}
 
-tells_by : (start media : Held) (happened : List (ℕ × Event)) (text : List ℕ) (o : Option WorldState) → length happened ≤ 65536 → Stands start happened text o media → Tells run_command start happened text media
-tells_by start media happened text None few h = record {
+tells_by : (start media : Held) (happened : List (ℕ × Event)) (text : List ℕ) (o : Option WorldState) → length happened ≤ 65536 → AreLegalLines happened → Stands start happened text o media → Tells run_command start happened text media
+tells_by start media happened text None few legal h = record {
   notes = [];
   ran = inl (record { events_are = h.events_are; notes_are = refl; media_are = h.media_are });
   text_is = h.text_is;
 }
-tells_by start media happened text (Some w) few h = record {
+tells_by start media happened text (Some w) few legal h = record {
   notes = journal h.run;
-  ran = inr (has_run h.line h.run start media w happened h.start_is h.units_are h.some h.most h.few (entries_few h.line h.run happened h.events_are few) h.events_are h.stands h.lines h.typed);
+  ran = inr (has_run h.line h.run start media w happened h.start_is h.units_are h.some h.most h.few (entries_few h.line h.run happened h.events_are few) h.events_are h.stands h.lines h.typed (run_legal h.line h.run happened h.events_are legal));
   text_is = h.text_is;
 }
 
@@ -33,7 +36,7 @@ tells : (start : Held) (served : List (List ℕ)) (text : List ℕ) (state : Run
 tells start served text state media h =
     let few = events_few 1 0 served in
     let count = h.count in
-    tells_by start media (of_lines served).events text state.world (omega (arith, few, count)) h.stands
+    tells_by start media (of_lines served).events text state.world (omega (arith, few, count)) (legal_scripts_law.scripts 1 0 served) h.stands
 
 next : (served : List (List ℕ)) (line : List ℕ) (others : List (List ℕ)) → (of_lines served).fault ≡ None → GoesOn (of_lines served) (of_lines (served ++ line ∷ others))
 next served line others clean = record { more = _; events = ap (λ (s : Script). s.events) (served-next served line others clean) }

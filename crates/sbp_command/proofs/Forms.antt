@@ -3,7 +3,7 @@ use Rattle.std.proofs.Common.{refl, subst, ℕ, ◌≤◌, ◌<◌, ◌^◌, Lis
 use Rattle.std.specs.List.{AllByRecursion}
 use Rattle.rbc_disk.specs.Held.{Held}
 use Rattle.sbp_journal.specs.Form.{HasForm}
-use Rattle.sbp_journal.specs.Written.{IsTyped, IsWritten}
+use Rattle.sbp_journal.specs.Written.{IsWritten}
 use Rattle.sbp_journal.specs.declared.event.Event.{Event}
 use Rattle.sbp_journal.specs.declared.note.Note.{Note}
 use Rattle.sbp_journal.proofs.Each.{all_append, all_reverse}
@@ -12,16 +12,13 @@ use Rattle.sbp_world.specs.Runs.{AreEntries, Entry, Run, after, beginning}
 use Rattle.sbp_world.proofs.LineForms.{form_law}
 use Rattle.script_runner.specs.Events.{journal, notes_in}
 use Rattle.script_runner.proofs.Kept.{world_fresh}
+use Rattle.task_world.proofs.NotesWritten.{all_written}
 use Rattle.sbp_command.specs.Machine.{HasRun}
-
-both : (notes : List Note) → AllByRecursion HasForm notes → AllByRecursion IsTyped notes → AllByRecursion IsWritten notes
-both [] h t = tt
-both (note ∷ notes) h t = ((h.0, t.0), both notes h.1 t.1)
 
 written_in : (entries : List Entry) → AllByRecursion AreForms entries → AllByRecursion AreTyped entries → AllByRecursion IsWritten (notes_in entries)
 written_in [] h t = tt
 written_in (e ∷ before) h t =
-    all_append IsWritten (notes_in before) (reverse e.notes) (written_in before h.1 t.1) (all_reverse IsWritten e.notes (both e.notes h.0 t.0))
+    all_append IsWritten (notes_in before) (reverse e.notes) (written_in before h.1 t.1) (all_reverse IsWritten e.notes (all_written e.notes h.0 t.0))
 
 pub is_written : (run : Run) → run.initiators ≤ 4 → AreEntries (beginning run) run.entries → AllByRecursion AreTyped run.entries → AllByRecursion IsWritten (journal run)
 is_written run few lines typed =

@@ -1,7 +1,9 @@
+mod LegalRuns
 mod Wires
 mod Scripts
 mod Endings
 mod Completing
+mod DrillEnds
 mod Drilling
 mod Listings
 mod Roms
@@ -10,6 +12,7 @@ mod Media
 mod Forms
 mod QueueScripts
 mod QueueFits
+mod QueueLegal
 mod QueueRunning
 mod QueueEndings
 mod TaskScripts

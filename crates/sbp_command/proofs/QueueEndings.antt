@@ -13,11 +13,12 @@ use Rattle.line_session.specs.Ends as stream
 use Rattle.line_session.specs.Ends.Brings.{lines_alone, with_fault, with_end}
 use Rattle.line_session.specs.declared.status.Status.{Status}
 use Rattle.line_session.specs.declared.status.Status.TheVariants as stream_statuses
+use Rattle.sbp_world.specs.Completing.Deaths.{AreLegal}
 use Rattle.retry_queue.specs.declared.line.QueueLine.{QueueLine}
 use Rattle.retry_queue.specs.declared.note.QueueNote.{QueueNote}
 use Rattle.retry_queue.specs.Journals.{medium}
 use Rattle.retry_queue.specs.Queues.{QueueState, queue_over, world_scene}
-use Rattle.retry_queue.specs.Runs.{IsQueueRun, QueueMediaLaw, QueueRunsLaw}
+use Rattle.retry_queue.specs.Runs.{HasQueueLaw, IsQueueRun, QueueMediaLaw, QueueRunsLaw}
 use Rattle.retry_queue.specs.Scripts.{Served, journal, notes_in, said_in}
 use Rattle.retry_queue.specs.Texts.{text_of}
 use Rattle.retry_queue.proofs.StandingRuns.{stands_for_runs}
@@ -28,6 +29,7 @@ use Rattle.sbp_command.specs.QueueLines.{begun_by, of_lines, queue_script}
 use Rattle.sbp_command.specs.QueueRunner.{InRun, RanSo, Stands, queue_meaning}
 use Rattle.sbp_command.specs.Scripts.{ending}
 use Rattle.sbp_command.proofs.Scripts.{front_events}
+use Rattle.sbp_command.proofs.QueueLegal.{made_legal}
 use Rattle.sbp_command.proofs.QueueScripts.{refused-says, said_few, served-fault, served-next}
 use Rattle.sbp_command.proofs.Wires.{has_run}
 
@@ -57,6 +59,9 @@ module _ (laws : QueueLaws) (start : Held) (before : List (ℕ × QueueLine)) (t
   queue_run : IsQueueRun h.served h.stands.line h.run
   queue_run = stands_for_runs h.served h.run (queue_over queue media) h.stands h.lines lines_few (h.units_are ∙ sym (ap (λ (m : Held). length m.disks) h.start_is)) h.some h.most
 
+  queue_law : HasQueueLaw h.served h.run
+  queue_law = laws.lawful h.served h.stands.line h.run queue_run
+
   -- what its media hold is what the journal says of it
   queue_medium : disk_at media.disks 0 ≡ medium (disk_at start.disks 0) (journal h.served)
   queue_medium =
@@ -71,9 +76,9 @@ module _ (laws : QueueLaws) (start : Held) (before : List (ℕ × QueueLine)) (t
     notes_are = refl;
     start_is = h.start_is;
     queue_run = queue_run;
-    lawful = laws.lawful h.served h.stands.line h.run queue_run;
+    lawful = queue_law;
     medium_is = queue_medium;
-    ran = has_run h.stands.line h.run start media queue.world (events_of h.stands.line h.run) h.start_is h.units_are h.some h.most (let same = h.stands.one in omega (arith, same)) entries_few refl h.stands.stands.stands h.stands.lines h.stands.typed;
+    ran = has_run h.stands.line h.run start media queue.world (events_of h.stands.line h.run) h.start_is h.units_are h.some h.most (let same = h.stands.one in omega (arith, same)) entries_few refl h.stands.stands.stands h.stands.lines h.stands.typed (subst AreLegal queue_run.history (made_legal (journal h.served) queue_law.is.made));
   }
 
 -- what the queue told, and its text

@@ -22,8 +22,9 @@ use Rattle.retry_queue.specs.Journals.{IsSubmission}
 use Rattle.retry_queue.specs.Kept.{asked_by, kept, new_kept, told}
 use Rattle.retry_queue.specs.Queues.{Pumps, PumpsBy, QueueScene, QueueState, QueueStands, RunsLine, Submits, first_run, pumped, queue_over, submission, writes}
 use Rattle.retry_queue.specs.Scripts.{AreServed, IsOfBus, MaySay, Served, beginning_line, event_in, first_served, fresh_in, journal, notes_in, told_in, with_line}
-use Rattle.retry_queue.specs.Steps.{Step, of_world, submitted, idled, told as told_step, submissions}
+use Rattle.retry_queue.specs.Steps.{submitted, submissions}
 use Rattle.retry_queue.specs.Texts.{HasForm, note_text, text_of}
+use Rattle.retry_queue.proofs.ScriptRuns.{writes_count}
 use Rattle.script_runner.specs.Script.{Hears}
 use Rattle.script_runner.proofs.Kept.{world_fresh}
 use Rattle.script_runner.proofs.Running.{served_few}
@@ -126,14 +127,6 @@ ran_behind served run number said event queue new old media e tells ran h =
           subst (λ due. QueueStands (with_line past number due (told_in said due new.world.fresh past)) (with_entry run (entry number event g.ran new.world.fresh)) (queue_over new media)) (sym e)
           (subst (λ ns. QueueStands (with_line past number (Some event) ns) (with_entry run (entry number event g.ran new.world.fresh)) (queue_over new media)) fresh_is g.stands);
     }
-
--- how many writes a journal has
-writes_count : (past : List Step) → length (writes past) ≡ submissions past
-writes_count [] = refl
-writes_count (submitted lba bytes ∷ past) = let more = length-append (writes past) (submission lba bytes ∷ []) in let rest = writes_count past in omega (arith, more, rest)
-writes_count (of_world moment ∷ past) = writes_count past
-writes_count (idled ∷ past) = writes_count past
-writes_count (told_step number status ∷ past) = writes_count past
 
 -- a pump by the event of its table
 pumped_behind : (served : List Served) (run : Run) (number : ℕ) (due : Option Event) (queue new : QueueState) (old media : Held) → event_in Pump (journal served) ≡ due → PumpsBy due number (queue_over queue old) (queue_over new media)

@@ -1,5 +1,5 @@
 -- A script of `tasks` is run line by line: what the task world stands for goes on.
-use Rattle.std.proofs.Common.{◌≡◌, ◌∙◌, refl, sym, ap, subst, ℕ, zero, suc, true, ◌+◌, ◌≤◌, List, [], ◌∷◌, ◌++◌, length, map, reverse, Option, Some, None, Ok, Err, append_assoc, append-nil, arith}
+use Rattle.std.proofs.Common.{◌≡◌, ◌∙◌, refl, sym, ap, subst, ℕ, zero, suc, true, ◌+◌, ◌≤◌, List, [], ◌∷◌, ◌++◌, length, map, reverse, Option, Some, None, Ok, append_assoc, append-nil, arith}
 use Rattle.std.specs.Prelude.{slice_index, slice_index_or, slice_set}
 use Rattle.std.specs.List.{AllByRecursion}
 use Rattle.std.proofs.lemmas.List.Concat.{flat_map-append}
@@ -8,15 +8,12 @@ use Rattle.rbc_disk.specs.Held.{Held, held}
 use Rattle.sbp_journal.specs.declared.event.Event.{Event}
 use Rattle.sbp_journal.specs.Text.{note_text, text_of}
 use Rattle.sbp_journal.specs.Written.{IsTyped}
-use Rattle.line_session.specs.Meaning.{Serves}
-use Rattle.line_session.specs.declared.serve.LineError.{LineError}
-use Rattle.line_session.specs.declared.serve.LineError.TheVariants.{Fault, NoMemory}
 use Rattle.sbp_world.specs.Making.{notes_begin}
 use Rattle.sbp_world.specs.Runs.{entry, with_entry}
 use Rattle.sbp_world.specs.Wire.Lines.{IsLine}
 use Rattle.script_text.specs.Script.{initiators_after}
 use Rattle.script_runner.specs.Events.{MayLeave, journal}
-use Rattle.script_runner.specs.Script.{Hears, begun_by}
+use Rattle.script_runner.specs.Script.{begun_by}
 use Rattle.script_runner.proofs.Running.{may_leave, same_initiators, served_few}
 use Rattle.script_runner.proofs.ScriptLines.{begun_by-more}
 use Rattle.task_world.specs.Lines.{IsTaskEvent, TaskHappens}
@@ -26,7 +23,7 @@ use Rattle.task_world.specs.Worlds.{TaskWorldState}
 use Rattle.task_world.proofs.Standing.{begins, goes_on}
 use Rattle.sbp_command.specs.TaskLines.{heard, of_lines, says}
 use Rattle.task_world.specs.Media.{first_of}
-use Rattle.sbp_command.specs.TaskRunner.{InRun, KeepsOthers, MayHappenIn, RanSo, Stands, beginning_event, initiators_in, scene_of, task_meaning, with_first}
+use Rattle.sbp_command.specs.TaskRunner.{InRun, KeepsOthers, MayHappenIn, RanSo, Stands, beginning_event, initiators_in, scene_of, with_first}
 use Rattle.sbp_command.proofs.TaskScripts.{says-within, served-more}
 
 -- ---- the media
@@ -173,11 +170,3 @@ ran_nothing start media served line text state number e few read h =
       initiators = h.initiators ∙ ap (begun_by 0) (sym behind);
       stands = subst (λ es. Stands start es text state media) (sym behind) h.stands;
     }
-
--- a line gave nothing
-pub line_fails : (error : LineError) (start media : Held) (served : List (List ℕ)) (line text : List ℕ) (state after : Option TaskWorldState) (number : ℕ) → number ≡ 1 + length served → number ≤ 65536
-    → Hears (Err error) (heard (initiators_in state) line) → RanSo start served text state media
-    → Serves task_meaning (λ fault. says (1 + length served) (begun_by 0 (of_lines served).events) line ≡ Err fault) (Err error) start served line text after media media
-line_fails (Fault fault) start media served line text state after number e few read h =
-    (says-within (1 + length served) (begun_by 0 (of_lines served).events) line (omega (arith, e, few)) ∙ ap (λ n. heard n line) (sym h.initiators) ∙ read, (state, h))
-line_fails NoMemory start media served line text state after number e few read h = task_meaning.stays_same media

@@ -3,6 +3,7 @@ use Rattle.std.proofs.Common.{◌≡◌, ◌∙◌, inr, refl, sym, ap, subst, �
 use Rattle.std.specs.List.{AllByRecursion}
 use Rattle.std.proofs.lemmas.List.{length-append}
 use Rattle.sbp_journal.specs.declared.event.Event.{Event}
+use Rattle.sbp_world.specs.Completing.Deaths.{AreLegal}
 use Rattle.sbp_world.specs.Histories.{history_of}
 use Rattle.sbp_world.specs.Runs.{AreEntries, Entry, Run, StandsFor, after, beginning}
 use Rattle.sbp_world.specs.Worlds.{WorldState}
@@ -78,8 +79,8 @@ module _ (line : ℕ) (run : Run) (few : run.initiators ≤ 4) (count : length r
 
 -- it is one over its events, whose notes are its journal
 pub has_run : (line : ℕ) (run : Run) (start media : Held) (world : WorldState) (happened : List (ℕ × Event)) → run.start ≡ start → run.units ≡ length start.disks → 0 < run.units → run.units ≤ 4 → run.initiators ≤ 4 → length run.entries ≤ 65535 → events_of line run ≡ happened
-    → StandsFor run (scene_of world media) → AreLines run run.entries → AllByRecursion AreTyped run.entries → HasRun start happened (journal run) media
-has_run line run start media world happened same units some most few count events stands lines typed =
+    → StandsFor run (scene_of world media) → AreLines run run.entries → AllByRecursion AreTyped run.entries → AreLegal (history_of line run) → HasRun start happened (journal run) media
+has_run line run start media world happened same units some most few count events stands lines typed legal =
     let left : media ≡ (after (beginning run) run.entries).media = ap (λ s. s.media) stands.state in
     record {
       line = line;
@@ -93,6 +94,7 @@ has_run line run start media world happened same units some most few count event
       media_fit = run_fits run start media same few stands.lines left;
       leaves = run_leaves line run start media same few stands.lines left;
       lawful = run_laws line run few count stands.lines lines start same units some most typed;
+      legal = legal;
       states = run_states line run few count stands.lines lines start same units some most;
       open_lists = run_open_lists line run few count stands.lines lines start same units some most;
       written = is_written run few stands.lines typed;

@@ -1,13 +1,21 @@
 -- What the top call promises of `drill`, by its status.
-use Rattle.std.specs.Prelude.{◌≡◌, ◌⊎◌, ℕ, List, [], take, slice_set, slice_index, Option}
+use Rattle.std.specs.Prelude.{◌≡◌, ◌⊎◌, ℕ, ◌+◌, ◌≤◌, List, [], take, slice_set, slice_index, Option}
+use Rattle.std.specs.List.{count_by}
 use Rattle.std.specs.Io.KnownBytes.{Appends}
 use Rattle.sbp_base.specs.Faults.{Rose}
 use Rattle.line_session.specs.Outside.{Outside}
 use Rattle.rbc_disk.specs.Disk.{disk_at}
 use Rattle.rbc_disk.specs.Held.{Held}
+use Rattle.sbp_journal.specs.Run.{Moment}
 use Rattle.sbp_journal.specs.Text.{text_of}
 use Rattle.sbp_journal.specs.declared.note.Note.{Note}
 use Rattle.script_text.specs.Drill.{generated}
+use Rattle.sbp_world.specs.Histories.{history_of}
+use Rattle.sbp_world.specs.Wire.Journal.{journal_run}
+use Rattle.drill_laws.specs.DrillGood.{RanWell}
+use Rattle.drill_laws.specs.DrillLines.{is_refused}
+use Rattle.drill_laws.specs.DrillRuns.{EndsDrill}
+use Rattle.drill_laws.specs.DrillTaken.{AreRungTaken}
 use Rattle.drill_text.specs.Disks.{SumsUp}
 use Rattle.drill_text.specs.Summary.{summary_text}
 use Rattle.drill_text.specs.Sums.{trace}
@@ -23,13 +31,23 @@ pub record SumsFirst (sum : Option ℕ) (before now : Held) : Type 0 where
   pub others : now.faults ≡ slice_set before.faults 0 (slice_index now.faults 0)
   pub first : SumsUp sum (disk_at before.disks 0) (slice_index before.faults 0) (slice_index now.faults 0)
 
+-- What the counts of the six lines come to (NCITS 325-1998, command block agents, status block). `appended` and the lines that were refused are together the commands that were asked for. `taken` is at most `appended`, and as many
+-- where each rung ORB has its status. `good` is as many as `taken` where no agent died, no ORB ended as a dummy, and each command ran well.
+pub record TalliesDrill (count : ℕ) (past : List Moment) (notes : List Note) : Type 0 where
+  pub appended : (tally_of notes).appended + count_by is_refused notes ≡ count
+  pub most : (tally_of notes).taken ≤ (tally_of notes).appended
+  pub taken : AreRungTaken past → (tally_of notes).taken ≡ (tally_of notes).appended
+  pub good : RanWell past → (tally_of notes).good ≡ (tally_of notes).taken
+
 -- A run of the machine over exactly the lines of the generated script, from what the media held at first; then unit 0 was summed
--- up; and the six lines tell what both came to. The sum of the tally is that over the whole text of the notes, cut at its line feeds.
+-- up; and the six lines tell what both came to. The run is at rest at its end: nothing was lost or managed, each settle is `settled`, and nothing is in flight. The sum of the tally is that over the whole text of the notes, cut at its line feeds.
 pub record RanDrill (seed count : ℕ) (before now : Held) (output : List ℕ) : Type 0 where
   pub notes : List Note
   pub media : Held
   pub disk : Option ℕ
   pub ran : HasRun before (numbered_from 1 (generated seed count)) notes media
+  pub ends : EndsDrill count (journal_run ran.line ran.run)
+  pub counts : TalliesDrill count (history_of ran.line ran.run) notes
   pub trace_is : (tally_of notes).sum ≡ trace (text_of notes)
   pub summed : SumsFirst disk media now
   pub output_is : output ≡ summary_text (record { seed = seed; count = count; tally = tally_of notes; disk = disk })

@@ -7,6 +7,7 @@ use Rattle.sbp_journal.specs.declared.note.Note.{Note}
 use Rattle.sbp_journal.specs.Text.{text_of}
 use Rattle.sbp_journal.specs.Written.{IsWritten}
 use Rattle.media_laws.specs.Media.{LeavesMedia, media_after}
+use Rattle.sbp_world.specs.Completing.Deaths.{AreLegal}
 use Rattle.sbp_world.specs.Histories.{history_of}
 use Rattle.sbp_world.specs.Runs.{AreEntries, Run, after, beginning}
 use Rattle.sbp_world.specs.Wire.States.{AreOpenLists, AreStates}
@@ -15,7 +16,7 @@ use Rattle.script_runner.specs.Events.{events_of, journal}
 
 -- A run of the machine, over exactly these events and from what the media held at first: its notes, and what it leaves of the media. That is
 -- what the notes alone say of them: each medium holds what the disk fold gives, and each failing run raised its count. The run is
--- lawful. The terms of its journal are the states of the nodes as it ends. Its notes are written so that their text
+-- lawful, and its commands are legal, so that what a law of runs says of legal commands holds of it. The terms of its journal are the states of the nodes as it ends. Its notes are written so that their text
 -- determines them: no other notes of such a form have it.
 pub record HasRun (start : Held) (happened : List (ℕ × Event)) (notes : List Note) (now : Held) : Type 0 where
   pub line : ℕ
@@ -29,6 +30,7 @@ pub record HasRun (start : Held) (happened : List (ℕ × Event)) (notes : List 
   pub media_fit : now ≡ media_after (reverse notes) start
   pub leaves : LeavesMedia start (history_of line run) now
   pub lawful : IsLawfulRun line run
+  pub legal : AreLegal (history_of line run)
   pub states : AreStates start.disks (history_of line run) (after (beginning run) run.entries)
   pub open_lists : AreOpenLists start.disks (history_of line run) (after (beginning run) run.entries).world
   pub written : AllByRecursion IsWritten notes

@@ -20,6 +20,7 @@ fn summary(
 ) -> Result<Bytes, NoMemory>
     requires some { 1 ≤ length media.old.items }
     requires few { length media.old.items ≤ 4 }
+    requires asked { 1 ≤ words.count }
     requires commands { words.count ≤ 10000 }
     ensures { IfOk result (λ lines. RanDrill words.seed words.count (held (map disk media.old.items) (map media_faults media.old.items)) (held (map disk media.new.items) (map media_faults media.new.items)) lines) }
 {
@@ -42,6 +43,7 @@ pub(crate) fn run_drill<K: Sink>(
 ) -> Status
     requires some { 1 ≤ length media.old.items }
     requires few { length media.old.items ≤ 4 }
+    requires asked { 1 ≤ words.count }
     requires commands { words.count ≤ 10000 }
     ensures { (left : Option (List ℕ)) (reads : ℕ) → DrillEnds words.seed words.count result (outside left reads (K.written sink.old) (K.faults sink.old) (map disk media.old.items) (map media_faults media.old.items)) (outside left reads (K.written sink.new) (K.faults sink.new) (map disk media.new.items) (map media_faults media.new.items)) }
 {

@@ -1,0 +1,17 @@
+pub mod DrillLines
+pub mod DrillScripts
+pub mod DrillTakings
+pub mod DrillQuiet
+pub mod DrillSettles
+pub mod DrillAppends
+pub mod DrillCalm
+pub mod DrillTaken
+pub mod DrillRuns
+pub mod DrillGood
+pub mod DrillDisk
+pub mod DrillRan
+pub mod DrillBlocks
+pub mod DrillWrites
+pub mod DrillRefused
+pub mod DrillSlots
+pub mod DrillApart
