@@ -16,6 +16,7 @@ pub mod BellsGot
 pub mod BellsFound
 pub mod BellsFree
 pub mod BellsTaken
+pub mod BellsFew
 pub mod Nulls
 pub mod OperationsReplies
 pub mod Deaths
@@ -30,3 +31,8 @@ pub mod EndsTaken
 pub mod EndsAimed
 pub mod EndsLevels
 pub mod EndsBecame
+pub mod ToldEnds
+pub mod EndsJudged
+pub mod EndsWell
+pub mod OperationsEnd
+pub mod Latest

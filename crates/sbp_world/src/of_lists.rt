@@ -8,29 +8,32 @@ ghost use Rattle.sbp_world.specs.Completing.Operations.{ManagementAloneLaw, NoRe
 ghost use Rattle.sbp_world.specs.Completing.OperationsReplies.{WholeRepliesLaw};
 ghost use Rattle.sbp_world.specs.Completing.Present.{FreshFewLaw, RestPointedLaw, RungWrittenLaw};
 ghost use Rattle.sbp_world.specs.Completing.PresentHomes.{BasedFewLaw, HomeStillFewLaw, HomesFewLaw};
-ghost use Rattle.sbp_world.specs.Completing.Deaths.{AnsweredLaw, DeliveriesLive, GivenLaw, LivingLaw, NoneDiesLaw, OthersLive, RepliesLive};
-ghost use Rattle.sbp_world.specs.Completing.Done.{DeadKnownLaw, DoneLaw};
-ghost use Rattle.sbp_world.specs.Completing.Ends.{BlocksEnd, BusyRefuses, DeliveriesHandle, DeliveriesManage, GoOnLaw, NoneFailsLaw, OthersManage, RefusedLaw};
-ghost use Rattle.sbp_world.specs.Completing.Writes.{AcceptedLaw, AcceptedLivesLaw, AnsweredThereLaw, FifosLatestLaw, FifosOpenLaw, ReadableLaw, StatusesAcceptedLaw};
+ghost use Rattle.sbp_world.specs.Completing.Deaths.{DeliveriesLive, LivesFewLaw, OthersLive, RepliesLive};
+ghost use Rattle.sbp_world.specs.Completing.Done.{AllRungCompleteLaw, DeadKnownLaw, RungOrbsCompleteLaw};
+ghost use Rattle.sbp_world.specs.Completing.Ends.{AllGoOnLaw, BlocksEnd, BusyRefuses, DeliveriesHandle, DeliveriesManage, NoneFailedLaw, OthersManage, RefusedLaw};
+ghost use Rattle.sbp_world.specs.Completing.Writes.{AnsweredFewLaw, FifosOpenFewLaw, ReadableLaw};
 ghost use Rattle.sbp_world.specs.Completing.EndsAimed.{AimedLaw};
 ghost use Rattle.sbp_world.specs.Completing.EndsBecame.{BecameLaw, LeftLaw};
+ghost use Rattle.sbp_world.specs.Completing.EndsJudged.{AcceptedAtRestLaw, GotNewLaw};
 ghost use Rattle.sbp_world.specs.Completing.EndsLevels.{LevelLaw};
 ghost use Rattle.sbp_world.specs.Completing.EndsTaken.{TakenWriteLaw};
+ghost use Rattle.sbp_world.specs.Completing.ToldEnds.{ToldEndLaw};
+ghost use Rattle.sbp_world.specs.Completing.EndsWell.{AllManagedWellLaw};
+ghost use Rattle.sbp_world.specs.Completing.OperationsEnd.{NoneLeftLaw};
 ghost use Rattle.sbp_world.specs.Completing.Rest.{RestLaw};
 ghost use Rattle.sbp_world.specs.Completing.RestServed.{RestServedLaw};
 ghost use Rattle.sbp_world.specs.Completing.RestStatuses.{RestStatusesLaw};
-ghost use Rattle.sbp_world.specs.Completing.Managed.{FindsLaw, GivenBeforeLaw, GivenWhereOpenLaw};
+ghost use Rattle.sbp_world.specs.Completing.Managed.{FindsLaw, GivenBeforeLaw};
 ghost use Rattle.sbp_world.specs.Completing.ManagedRefusals.{RefusalsLaw};
 ghost use Rattle.sbp_world.specs.Completing.Nulls.{NullsLaw};
 ghost use Rattle.sbp_world.specs.Completing.Bells.{BelledLaw, EndedAtRestLaw, ListsThenLaw, NullsNamedLaw, NullsThenLaw, RestsLastLaw, RungEndedWhereGotLaw, RungLinkedLaw};
-ghost use Rattle.sbp_world.specs.Completing.BellsGot.{RungEndedWhereTakenLaw};
-ghost use Rattle.sbp_world.specs.Completing.BellsFound.{BellsAddressedLaw, FoundTakenLaw, RungEndedWhereFoundLaw, RungEndedWhereQuadletsLaw};
+ghost use Rattle.sbp_world.specs.Completing.BellsFound.{BellsAddressedLaw};
+ghost use Rattle.sbp_world.specs.Completing.BellsFew.{OpeningsFewLaw, QuadletsGotFewLaw, RungEndedFewLaw};
 ghost use Rattle.sbp_world.specs.Completing.BellsFree.{BellsFreeLaw};
-ghost use Rattle.sbp_world.specs.Completing.BellsOpened.{OpeningsLaw};
 ghost use Rattle.sbp_world.specs.Completing.BellsTaken.{RestBelledLaw};
 ghost use Rattle.sbp_world.specs.Completing.Rung.{RungLaw};
 ghost use Rattle.sbp_world.specs.Counting.Bounded.{CompletionLaw};
-ghost use Rattle.sbp_world.specs.Completing.Shut.{GivenWhereLatestLaw, GivenWhereLoginsOpenLaw, LoginsInsideLaw, ToFifosLaw};
+ghost use Rattle.sbp_world.specs.Completing.Shut.{GivenWholeLaw, LoginsInsideLaw, LoginsLatestLaw, ToFifosLaw};
 ghost use Rattle.sbp_world.specs.Lists.AheadGots.{AheadAsGotLaw, AheadSinceLaw, WaitsAsGotLaw};
 ghost use Rattle.sbp_world.specs.Lists.Along.{AlongLaw};
 ghost use Rattle.sbp_world.specs.Lists.Bases.{BasesLaw};
@@ -101,6 +104,7 @@ ghost use Rattle.sbp_world.specs.Lists.TakenTurns.{IgnoredLaw, TakenTurnsLaw};
 ghost use Rattle.sbp_world.specs.Lists.LetsGo.{MainStaysLaw, NobodyWaitsLaw};
 ghost use Rattle.sbp_world.specs.Lists.NobodyGots.{NobodyAsGotLaw};
 ghost use Rattle.sbp_world.specs.Lists.CarriedOrbs.{CarriedOrbsLaw};
+ghost use Rattle.sbp_world.specs.Completing.Latest.{EnteredLatestLaw, FifosLatestKnownLaw};
 
 /// The lists of an initiator, as the run terms have them, are laid out as an agent asks for it: an ORB without
 /// elements of a page table names the buffer of its command. From each moment of every run on a list grows:
@@ -1003,38 +1007,12 @@ pub fn linked_orbs_have_ended_at_rest()
     ensures { EndedAtRestLaw }
 {}
 
-/// In every such run, where a write of `ORB_POINTER` that waits finds the login of its initiator: a list that was
-/// not cut, and whose write of `ORB_POINTER` was taken in the generation that its initiator is in, is at an agent
-/// that is out of RESET, be it DEAD. It was in RESET as this write was got, and has had the list as each packet was
-/// got since.
-#[tactic(auto, using(crate::proofs::Completing::BellsOpenedRuns::openings_law))]
-pub fn agents_have_lists_since_their_pointers_were_got()
-    ensures { OpeningsLaw }
-{}
-
 /// In every such run: where what each ring wrote for the latest list of an initiator was got by the agent that has
 /// the list, a DOORBELL or the ORB_POINTER of the list, and this agent is SUSPENDED, each rung ORB of the list has
 /// ended. At each place of such a run.
 #[tactic(auto, using(crate::proofs::Completing::BellsRuns::rung_ended_law))]
 pub fn rung_orbs_end_where_their_writes_are_got()
     ensures { RungEndedWhereGotLaw }
-{}
-
-/// In every run in which no initiator injected packets, where a write of `ORB_POINTER` that waits finds the login of
-/// its initiator, and where each `DOORBELL` that a ring wrote once the `ORB_POINTER` of its list was got is got by
-/// the agent that has the list: at rest each rung ORB has ended of a list that is present, which its initiator
-/// began since it first saw the latest reset.
-#[tactic(auto, using(crate::proofs::Completing::BellsGotRuns::rung_ended_where_taken))]
-pub fn rung_orbs_have_ended_where_bells_are_got()
-    ensures { RungEndedWhereTakenLaw }
-{}
-
-/// In every run in which no initiator injected packets, at rest: what a ring wrote once the `ORB_POINTER` of its list
-/// was got is a quadlet; and where each of these was got at the address of the `DOORBELL` of the agent that has the
-/// list, the agent got its `DOORBELL`, behind what stood as the ring wrote.
-#[tactic(auto, using(crate::proofs::Completing::BellsFoundRuns::found_taken))]
-pub fn quadlets_of_rings_are_bells()
-    ensures { FoundTakenLaw }
 {}
 
 /// In every run, at each place: no login bars a write at the `DOORBELL` of an agent that is out of RESET, be it DEAD, by
@@ -1051,21 +1029,26 @@ pub fn quadlets_of_rings_are_for_their_doorbells()
     ensures { BellsAddressedLaw }
 {}
 
-/// In every run in which no initiator injected packets, where a write of `ORB_POINTER` that waits finds the login of
-/// its initiator, and where each quadlet that a ring wrote once the `ORB_POINTER` of its list was got is got at the
-/// address of the `DOORBELL` of the agent that has the list: at rest each rung ORB has ended of a list that is
-/// present, which its initiator began since it first saw the latest reset.
-#[tactic(auto, using(crate::proofs::Completing::BellsFoundRuns::rung_ended_where_found))]
-pub fn rung_orbs_have_ended_where_quadlets_are_got()
-    ensures { RungEndedWhereFoundLaw }
+/// In every run in which few logins were given: a list that was not cut, and for which the write of `ORB_POINTER` was
+/// taken, is at an agent that was in RESET as that was got, and that has had the list as each packet was got since.
+#[tactic(auto, using(crate::proofs::Completing::BellsFewOpened::openings_few_law))]
+pub fn few_agents_have_had_their_lists()
+    ensures { OpeningsFewLaw }
 {}
 
-/// In every run in which no initiator injected packets, where a write of `ORB_POINTER` that waits finds the login of
-/// its initiator, and where each quadlet that a ring wrote once the `ORB_POINTER` of its list was got is got: at rest
-/// each rung ORB has ended of a list that is present, which its initiator began since it first saw the latest reset.
-#[tactic(auto, using(crate::proofs::Completing::BellsQuadlets::rung_ended_where_quadlets))]
-pub fn rung_orbs_have_ended_where_writes_of_rings_are_got()
-    ensures { RungEndedWhereQuadletsLaw }
+/// In every run in which no initiator injected packets and few logins were given, at rest: each quadlet that a ring
+/// wrote once the `ORB_POINTER` of its list was got, is got, of each list that its initiator began since it first saw
+/// the latest reset.
+#[tactic(auto, using(crate::proofs::Completing::BellsFewRuns::quadlets_got_few_law))]
+pub fn quadlets_of_rings_are_got()
+    ensures { QuadletsGotFewLaw }
+{}
+
+/// In every run in which no initiator injected packets and few logins were given: at rest each rung ORB has ended of a
+/// list that is present, which its initiator began since it first saw the latest reset.
+#[tactic(auto, using(crate::proofs::Completing::BellsFewRuns::rung_ended_few_law))]
+pub fn rung_orbs_have_ended()
+    ensures { RungEndedFewLaw }
 {}
 
 /// In every run, where every node has seen the latest reset, nothing was lost since, and nothing is in flight: what
@@ -1215,36 +1198,6 @@ pub fn no_agent_dies_at_a_sight_or_a_tick()
     ensures { OthersLive }
 {}
 
-/// In every run in which no initiator injected packets, and the commands of the lines are those that a script can state: no agent died since the
-/// target first saw the latest reset, where nothing was lost since that reset, and at each moment since that sight at most 40 requests of the
-/// target to an initiator are under way that were sent for lists which have been cut. So it is if each delivery of a packet to the target goes
-/// on at each such place: the step of an agent does not make it dead, and what it asks for finds a label.
-#[tactic(auto, using(crate::proofs::Completing::DeathsRuns::none_dies_law))]
-pub fn no_agent_dies_where_deliveries_go_on()
-    ensures { NoneDiesLaw }
-{}
-
-/// So each delivery goes on, and no agent dies, in every such run if at each such place the response to the main transaction of an agent is
-/// complete, and a write that the agent asks for behind it finds a label: reads find labels, and what agents read is what their lists hold.
-#[tactic(auto, using(crate::proofs::Completing::DeathsGoing::living_law))]
-pub fn no_agent_dies_where_replies_are_complete()
-    ensures { LivingLaw }
-{}
-
-/// The response to the main transaction of an agent is complete for it, at each such place, if it answers complete what the agent asked for:
-/// a read with as many bytes as it asked for, and a write with rcode 0.
-#[tactic(auto, using(crate::proofs::Completing::DeathsGiven::given_law))]
-pub fn complete_answers_are_complete_replies()
-    ensures { GivenLaw }
-{}
-
-/// No agent dies, in every run in which nobody injected packets and the commands are legal, while nothing is lost and few requests of lists that
-/// were cut are under way, if each main transaction of an agent is answered complete.
-#[tactic(auto, using(crate::proofs::Completing::DeathsAnswered::answered_law))]
-pub fn no_agent_dies_where_answers_are_complete()
-    ensures { AnsweredLaw }
-{}
-
 /// In every run in which nobody injected packets, at a place where the target has seen the latest reset: where no agent died since it first
 /// saw that reset, none is DEAD. A sight of a reset puts each agent into RESET, and a step by which one dies tells so.
 #[tactic(auto, using(crate::proofs::Completing::DeadKnownRuns::dead_known_law))]
@@ -1252,14 +1205,20 @@ pub fn agents_that_are_dead_died()
     ensures { DeadKnownLaw }
 {}
 
-/// In every run in which nobody injected packets, and the commands of the lines are those that a script can state: where the run is lossless
-/// and nothing is in flight, and at each moment since the target first saw the latest reset 40 requests at most to each initiator are under way
-/// that were sent for lists which have been cut, each ORB of a list that an initiator began since it first saw that reset, and did not cut, has
-/// its status, up to the one that was rung last; no operation and no read of AGENT_STATE is under way; and since the target first saw the reset
-/// no agent died, and no operation of the management failed. So it is where what is said of agents, operations and lists there holds.
-#[tactic(auto, using(crate::proofs::Completing::Done::done_law))]
-pub fn rung_orbs_complete_by_agents_and_operations()
-    ensures { DoneLaw }
+/// In every run in which nobody injected packets, few logins were given, and the commands of the lines are those that a script can state:
+/// where the run is lossless and nothing is in flight, and at each moment since the target first saw the latest reset 40 requests at most to
+/// each initiator are under way that were sent for lists which have been cut, each ORB of a list that an initiator began since it first saw
+/// that reset, and did not cut, has its status, up to the one that was rung last; no operation and no read of AGENT_STATE is under way; and
+/// since the target first saw the reset no agent died, and no operation of the management failed.
+#[tactic(auto, using(crate::proofs::Completing::Done::rung_orbs_complete_law))]
+pub fn rung_orbs_complete()
+    ensures { RungOrbsCompleteLaw }
+{}
+
+/// So it is behind each line of such a run, by its journal.
+#[tactic(auto, using(crate::proofs::Completing::DoneFronts::all_rung_complete_law))]
+pub fn rung_orbs_complete_behind_each_line()
+    ensures { AllRungCompleteLaw }
 {}
 
 /// The management operation of the target does not fail in the delivery of a packet to it at which a step of the operation does not fail, and
@@ -1281,15 +1240,6 @@ pub fn deliveries_take_the_operation_on()
 #[tactic(auto, using(crate::proofs::Completing::EndsTold::others_manage))]
 pub fn no_operation_fails_at_a_sight_or_a_tick()
     ensures { OthersManage }
-{}
-
-/// In every run in which no initiator injected packets: no operation of the management failed since the target first saw the latest reset,
-/// where nothing was lost since that reset, and at each moment since that sight at most 40 requests of the target to an initiator are under way
-/// that were sent for lists which have been cut. So it is if at each such place the response to the operation's transaction is whole, and what
-/// the operation asks for behind it finds a label.
-#[tactic(auto, using(crate::proofs::Completing::EndsRuns::none_fails_law))]
-pub fn no_operation_fails_where_replies_are_whole()
-    ensures { NoneFailsLaw }
 {}
 
 /// In every run in which no initiator injected packets, or few logins were given: a write of an initiator that injected none, which the target
@@ -1346,21 +1296,63 @@ pub fn operations_left_at_rest_were_refused_or_ended()
     ensures { LeftLaw }
 {}
 
-/// In every history: a write of MANAGEMENT_AGENT that the target took as new started an operation, which the target handles, unless one was
-/// under way, or the write was ignored; or the status block of its ORB was sent behind it and taken as new. So it is while nothing times out,
-/// no operation fails, the target sees no other generation, and what the operation waits for is answered whole.
-#[tactic(auto, using(crate::proofs::Completing::EndsTaken::taken_write_law))]
-pub fn writes_that_are_taken_are_handled()
-    ensures { TakenWriteLaw }
+/// In every run in which no initiator injected packets no operation of an initiator is left at rest whose status block was taken: the response
+/// to the block was complete, so the block was got at an open FIFO while that operation was under way, and ended it.
+#[tactic(auto, using(crate::proofs::Completing::ToldEnds::told_end_law))]
+pub fn taken_status_blocks_end_their_operations()
+    ensures { ToldEndLaw }
+{}
+
+/// In every run in which no initiator injected packets: a write of MANAGEMENT_AGENT that was not injected, and that the target took as new, was
+/// got then, for no login is asked for there. No operation was under way as it was got; or the target answered it with conflict_error.
+#[tactic(auto, using(crate::proofs::Completing::EndsJudged::got_new_law))]
+pub fn new_writes_of_the_management_agent_are_got()
+    ensures { GotNewLaw }
+{}
+
+/// In every run in which no initiator injected packets, at each place where the run is without loss and nothing is in flight: the write of an
+/// operation that an initiator has under way found no other operation under way at the target, and was not ignored as new.
+#[tactic(auto, using(crate::proofs::Completing::EndsAccepted::accepted_law))]
+pub fn operations_left_at_rest_were_accepted()
+    ensures { AcceptedAtRestLaw }
+{}
+
+/// In every run in which no initiator injected packets, where nothing was lost since the latest reset, and few requests are under way that were
+/// sent for lists which have been cut: while the target is in the latest generation no operation of it fails, and what its operations wait for
+/// is whole; a response to a status block answers one that was taken as new.
+#[tactic(auto, using(crate::proofs::Completing::EndsEverywhere::all_managed_well_law))]
+pub fn the_management_goes_well_in_the_latest_generation()
+    ensures { AllManagedWellLaw }
+{}
+
+/// So no operation of the management is under way at rest.
+#[tactic(auto, using(crate::proofs::Completing::EndsEverywhere::none_left_law))]
+pub fn no_operation_is_left_at_rest()
+    ensures { NoneLeftLaw }
+{}
+
+/// In every run in which no initiator injected packets: no operation of the management failed since the target first saw the latest reset,
+/// where nothing was lost since that reset, and at each moment since that sight at most 40 requests of the target to an initiator are under way
+/// that were sent for lists which have been cut.
+#[tactic(auto, using(crate::proofs::Completing::EndsEverywhere::none_failed_law))]
+pub fn no_operation_fails()
+    ensures { NoneFailedLaw }
 {}
 
 /// In every run in which no initiator injected packets, at each place where nothing was lost since the latest reset, the target has seen that
 /// reset, and at most 40 requests of it to an initiator are under way that were sent for lists which have been cut: in each delivery to the
 /// target an operation under way goes on, of the same node and with the same ORB, or is over as the write of its status block was answered.
-/// So it is if the response to its transaction is whole, and what it asks for behind that finds a label.
-#[tactic(auto, using(crate::proofs::Completing::EndsGoing::go_on_law))]
-pub fn operations_go_on_where_replies_are_whole()
-    ensures { GoOnLaw }
+#[tactic(auto, using(crate::proofs::Completing::EndsEverywhere::all_go_on_law))]
+pub fn operations_go_on()
+    ensures { AllGoOnLaw }
+{}
+
+/// In every history: a write of MANAGEMENT_AGENT that the target took as new started an operation, which the target handles, unless one was
+/// under way, or the write was ignored; or the status block of its ORB was sent behind it, taken as new and answered complete. So it is while
+/// nothing times out, no operation fails, the target sees no other generation, and what the operation waits for is answered whole.
+#[tactic(auto, using(crate::proofs::Completing::EndsTaken::taken_write_law))]
+pub fn writes_that_are_taken_are_handled()
+    ensures { TakenWriteLaw }
 {}
 
 /// In every run in which nobody injected packets: the response to the request that the target's management operation waits for, as it is in flight
@@ -1381,54 +1373,25 @@ pub fn the_operation_finds_labels()
     ensures { FindsLaw }
 {}
 
-/// In every run in which nobody injected packets and the commands are legal, while nothing is lost and few requests of lists that were cut are under
-/// way: the response to the main transaction of an agent answers complete what the agent asked for, a read with as many bytes as it asked for, and a
-/// write with rcode 0, also where it answers a write that came again. So it is if no initiator refused what an agent waits for: ignored it for its
-/// grammar, its source or its login.
-#[tactic(auto, using(crate::proofs::Completing::WritesPlaces::answered_there_law))]
-pub fn main_transactions_are_answered_complete()
-    ensures { AnsweredThereLaw }
-{}
-
-/// In every run in which nobody injected packets no initiator refuses what an agent waits for, if each write of one behind the buffers of its
-/// initiator is accepted: it goes to the FIFO of the login that this initiator asked for last, whose session is not out, and its bytes can be read as a
-/// status block.
-#[tactic(auto, using(crate::proofs::Completing::WritesAllowed::accepted_law))]
-pub fn accepted_statuses_are_not_refused()
-    ensures { AcceptedLaw }
-{}
-
-/// So it is of each such write if it is of each status block that an agent waits for.
-#[tactic(auto, using(crate::proofs::Completing::WritesStatuses::statuses_accepted_law))]
-pub fn agents_write_statuses_alone_behind_buffers()
-    ensures { StatusesAcceptedLaw }
-{}
-
-/// A status that an agent waits for is accepted if the FIFO of the login of its place is that of the login which the initiator asked for last, whose
-/// session is not out, and if what the agent writes can be read as a status block.
-#[tactic(auto, using(crate::proofs::Completing::WritesFifos::fifos_open_law))]
-pub fn statuses_to_open_fifos_are_accepted()
-    ensures { FifosOpenLaw }
-{}
-
 /// In every run in which nobody injected packets, what an agent writes as a status can be read as a status block, which names a command ORB.
 #[tactic(auto, using(crate::proofs::Completing::FifosReadable::readable_law))]
 pub fn agents_write_status_blocks()
     ensures { ReadableLaw }
 {}
 
-/// In every run in which nobody injected packets, an initiator in the target's generation that has a live login is not out: so the FIFO of a login
-/// whose agent writes a status is open, if it is that of the login which its initiator asked for last.
-#[tactic(auto, using(crate::proofs::Completing::FifosInside::fifos_latest_law))]
-pub fn fifos_that_are_the_latest_are_open()
-    ensures { FifosLatestLaw }
+/// In every run in which nobody injected packets and few logins were given, the FIFO of a login whose agent writes a status is open while target and
+/// initiator are in one generation: it is that of the login which the initiator asked for last, whose session is not out.
+#[tactic(auto, using(crate::proofs::Completing::WritesLives::fifos_open_few))]
+pub fn fifos_of_statuses_are_open()
+    ensures { FifosOpenFewLaw }
 {}
 
-/// So no agent dies in every run in which nobody injected packets and the commands are legal, while nothing is lost and few requests of lists that
-/// were cut are under way, if where an agent writes a status the FIFO of its login is that of the login which its initiator asked for last.
-#[tactic(auto, using(crate::proofs::Completing::WritesLives::accepted_lives_law))]
-pub fn no_agent_dies_where_fifos_are_the_latest()
-    ensures { AcceptedLivesLaw }
+/// In every run in which nobody injected packets, few logins were given and the commands are legal, while nothing is lost and few requests of lists that
+/// were cut are under way: the response to the main transaction of an agent answers complete what the agent asked for, a read with as many bytes as it
+/// asked for, and a write with rcode 0, also where it answers a write that came again.
+#[tactic(auto, using(crate::proofs::Completing::WritesLives::answered_few_law))]
+pub fn main_transactions_are_answered_complete()
+    ensures { AnsweredFewLaw }
 {}
 
 /// In every run an initiator answers a request of the target with an error, where its payload is read as a status block, only if it writes to a FIFO that is
@@ -1438,32 +1401,11 @@ pub fn status_blocks_to_open_fifos_are_taken()
     ensures { RefusalsLaw }
 {}
 
-/// In every run in which nobody injected packets: so is the response to the status block of the operation, where the FIFO that the block goes to is open
-/// whenever its initiator ignores the block. So the operation is answered whole in each of its phases.
-#[tactic(auto, using(crate::proofs::Completing::ManagedStatuses::given_where_open_law))]
-pub fn the_operation_is_answered_whole_where_its_fifo_is_open()
-    ensures { GivenWhereOpenLaw }
-{}
-
 /// In every run in which nobody injected packets the status block of the target's management operation goes to the FIFO that its management ORB names, which
 /// is the one that the target read last: the FIFO of a login number, or that of a place of management.
 #[tactic(auto, using(crate::proofs::Completing::ShutRuns::to_fifos_law))]
 pub fn status_blocks_go_to_the_fifos_of_their_orbs()
     ensures { ToFifosLaw }
-{}
-
-/// So what the operation waits for is answered whole, where its status block goes to the FIFO of a place, which is open always; and so it is where the block
-/// goes to the FIFO of a login number, which is open whenever its initiator ignores the block.
-#[tactic(auto, using(crate::proofs::Completing::ShutRuns::given_where_logins_open_law))]
-pub fn the_operation_is_answered_whole_where_logins_are_open()
-    ensures { GivenWhereLoginsOpenLaw }
-{}
-
-/// The FIFO of a login number is open where it is that of the number which the initiator used last, and its session is not out: so what the operation waits
-/// for is answered whole, where the FIFO of a login number to which its status block goes is such a one whenever the initiator ignores the block.
-#[tactic(auto, using(crate::proofs::Completing::ShutLogins::given_where_latest_law))]
-pub fn the_operation_is_answered_whole_where_logins_are_the_latest()
-    ensures { GivenWhereLatestLaw }
 {}
 
 /// In every run in which nobody injected packets the session of an initiator that has a login under way is not out: it is entering, or stuck.
@@ -1472,10 +1414,47 @@ pub fn sessions_with_a_login_under_way_are_not_out()
     ensures { LoginsInsideLaw }
 {}
 
+/// In every run in which nobody injected packets the FIFO of a login number to which the status block of the target's operation of management goes is that
+/// of the login which its initiator asked for last, and the session is not out, whenever the initiator ignores the block for a cause that is answered with
+/// an error: no place of an ORB that the target has in hand gets another one meanwhile.
+#[tactic(auto, using(crate::proofs::Completing::LoginsLatest::logins_latest_law))]
+pub fn statuses_of_logins_go_to_the_latest_fifo()
+    ensures { LoginsLatestLaw }
+{}
+
+/// So in every such run the response to each request that the target's operation of management waits for is whole, as it is in flight: a read brings as many
+/// bytes as its phase waits for, and a write is answered complete.
+#[tactic(auto, using(crate::proofs::Completing::LoginsGiven::given_whole_law))]
+pub fn the_operation_is_answered_whole()
+    ensures { GivenWholeLaw }
+{}
+
 /// While a write of ORB_POINTER waits to be judged, in the generation of both ends, the target has the login of its initiator, also where this
 /// has given up meanwhile, where few logins were given: the session was live as the write was sent, with no logout under way, and none began
 /// since.
 #[tactic(auto, using(crate::proofs::Completing::HomeLaws::home_still_law))]
 pub fn logins_stay_while_a_pointer_waits()
     ensures { HomeStillFewLaw }
+{}
+
+/// In every run in which no initiator injected packets: while a login of an initiator is under way, each live login that
+/// the target has of its node has the FIFO of this login, in the generation of both.
+#[tactic(auto, using(crate::proofs::Completing::LatestRuns::entered_latest_law))]
+pub fn logins_under_way_have_their_fifo()
+    ensures { EnteredLatestLaw }
+{}
+
+/// In every run in which no initiator injected packets and few logins were given: each status that an agent writes goes
+/// to the FIFO of the login that its initiator asked for last, in the generation of both.
+#[tactic(auto, using(crate::proofs::Completing::LatestLaws::latest_fifos_law))]
+pub fn statuses_of_commands_go_to_the_latest_fifo()
+    ensures { FifosLatestKnownLaw }
+{}
+
+/// In every run in which no initiator injected packets, few logins were given and each command is one that a script can
+/// state: no agent died since the target first saw the latest reset, where nothing was lost since, and few requests that
+/// were sent for lists which have been cut are under way at each moment since.
+#[tactic(auto, using(crate::proofs::Completing::WritesLives::lives_few_law))]
+pub fn no_agent_dies_where_few_logins_were_given()
+    ensures { LivesFewLaw }
 {}

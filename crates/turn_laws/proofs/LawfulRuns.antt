@@ -34,6 +34,7 @@ use Rattle.turn_laws.specs.Failing.{FailsByRows}
 use Rattle.turn_laws.specs.Failures.{FailsWhereDue}
 use Rattle.turn_laws.specs.Faults.{DiesBeforeFaults}
 use Rattle.turn_laws.specs.LawfulRuns.{IsLawfulRun, LawfulRunsLaw}
+use Rattle.sbp_world.proofs.Completing.DoneFronts.{all_rung_complete_law}
 use Rattle.sbp_world.proofs.Counting.CompletionRuns.{completion_law}
 use Rattle.turn_laws.specs.Once.{DiesOnce}
 use Rattle.turn_laws.specs.Operations.{OperationsHold, OperationsStand}
@@ -181,6 +182,7 @@ module _ (line : ℕ) (run : Run) (is : IsRun run) (some : 0 < run.units) (most 
     in_turns = has_turns;
     action = has_action;
     completes = λ one tame. completion_law line run is one some most size tame;
+    rung = all_rung_complete_law line run is some most size;
   }
 
 pub lawful_runs_law : LawfulRunsLaw

@@ -32,6 +32,7 @@ use Rattle.sbp_world.proofs.Lists.Fair.{Told}
 use Rattle.sbp_world.proofs.Lists.StatusKnown.{got_by}
 use Rattle.sbp_world.proofs.Lists.StatusLogins.{each_there}
 use Rattle.sbp_world.proofs.Lists.YoungAgents.{HasSuch, IsYoung, Such, Young, young_ended, young_on}
+use Rattle.sbp_world.proofs.Lists.Bringing.{block_of}
 
 -- ---- a history that is split at two moments
 data IsSplit (m n : Moment) (x y : List Moment) : Type 0 where
@@ -68,11 +69,6 @@ pub record IsSentFor (t : Terms) (serial : ℕ) : Type 0 where
   pub block : access.is_block ≡ true
   pub lock : access.is_lock ≡ false
 
-block_in : (ask : Ask) (is_status : Bool) (fifo : ℕ) (access : Access) → IsAccessFor ask is_status fifo access → access.is_block ≡ true
-block_in (asks.Read offset size) s fifo access a = ap (λ (x : Access). x.is_block) a
-block_in (asks.Write offset size) s fifo access a = ap (λ (x : Access). x.is_block) a.0
-block_in asks.Nothing s fifo access a = absurd a
-
 lock_in : (ask : Ask) (is_status : Bool) (fifo : ℕ) (access : Access) → IsAccessFor ask is_status fifo access → access.is_lock ≡ false
 lock_in (asks.Read offset size) s fifo access a = ap (λ (x : Access). x.is_lock) a
 lock_in (asks.Write offset size) s fifo access a = ap (λ (x : Access). x.is_lock) a.0
@@ -84,7 +80,7 @@ asked_for t i fifo serial ask is_status r = record {
   under_way = r.under_way;
   access = r.access;
   is = r.is;
-  block = block_in ask is_status fifo r.access r.asks;
+  block = block_of ask is_status fifo r.access r.asks;
   lock = lock_in ask is_status fifo r.access r.asks;
 }
 
@@ -92,11 +88,11 @@ pub sent_for : (start : List Disk) (past : List Moment) (place : ℕ) → place 
 sent_for start past place b Main serial a e = asked_for _ _ _ _ _ _ ((a.all place b).main serial e)
 sent_for start past place b Ahead serial a e = asked_for _ _ _ _ _ _ ((a.all place b).ahead serial e)
 
-record IsPacket (so : Option Sending) : Type 0 where
-  packet : Sending
-  is : so ≡ Some packet
+pub record IsPacket (so : Option Sending) : Type 0 where
+  pub packet : Sending
+  pub is : so ≡ Some packet
 
-packet_from : (so : Option Sending) (from : ℕ) → sender_in so ≡ Some from → IsPacket so
+pub packet_from : (so : Option Sending) (from : ℕ) → sender_in so ≡ Some from → IsPacket so
 packet_from None from e = none_is from e
 packet_from (Some packet) from e = record { packet = packet; is = refl }
 

@@ -2,7 +2,7 @@
 use Rattle.sbp_world.proofs.Words.Std.{arith, ◌≡◌, ◌∙◌, refl, sym, ap, subst, ◌<◌, ◌+◌, ◌-◌, ℕ, suc, true, false, List, [], length, Option, Some, None, true≢false}
 use Rattle.sbp_world.proofs.Words.Wire.{Access, Moment, Terms, terms}
 use Rattle.sbp_world.proofs.Words.Target.{Operation, high_eui_at, low_eui_at, source_in, Disk}
-use Rattle.sbp_world.proofs.Words.Initiator.{is_fifo, new_memory, start_of, window_at}
+use Rattle.sbp_world.proofs.Words.Initiator.{is_fifo, new_memory, start_of}
 use Rattle.sbp_world.proofs.Words.Laws.{host_reply, id_for, sender_in, target_at}
 use Rattle.sbp_world.proofs.Words.World.{WorldState, initiator_at, AccessOf, WasAsked, IsReadBy, IsCalm, IsInAPlace, IsSaid, IsTameOrFew, read_access}
 use Rattle.bus_memory.proofs.Found.{window_here}
@@ -26,21 +26,14 @@ use Rattle.sbp_world.proofs.Lists.ManageTerms.{none_is, same_some}
 use Rattle.sbp_world.proofs.Lists.OfficeWrites.{goes_of, op_placed}
 use Rattle.sbp_world.proofs.Lists.OrbsRead.{access_there, sender_there}
 use Rattle.sbp_world.proofs.Lists.PlaceReplies.{place_length}
+use Rattle.sbp_world.proofs.Lists.ManagedGots.{rom_high, rom_low}
 
 -- ---- what is read
-rom_high : window_at high_eui_at ≡ Some windows.Rom
-unfolding window_at
-rom_high = refl
-
-rom_low : window_at low_eui_at ≡ Some windows.Rom
-unfolding window_at
-rom_low = refl
-
-high_no_fifo : is_fifo high_eui_at ≡ false
+pub high_no_fifo : is_fifo high_eui_at ≡ false
 unfolding is_fifo
 high_no_fifo = refl
 
-low_no_fifo : is_fifo low_eui_at ≡ false
+pub low_no_fifo : is_fifo low_eui_at ≡ false
 unfolding is_fifo
 low_no_fifo = refl
 

@@ -1,5 +1,5 @@
 -- At a place: what a ring wrote once the ORB_POINTER of its list was got is a quadlet, for ORB_POINTER is written once for a list; and where it was got at the DOORBELL of a place, that was got.
-use Rattle.sbp_world.proofs.Words.Std.{arith, ◌≡◌, ◌∙◌, sym, ap, subst, ◌<◌, ◌≤◌, ◌+◌, ◌-◌, ◌/◌, ◌%◌, ◌&&◌, nat_eq, nat_le, nat_lt, nat_tests, ℕ, suc, true, false, cond, List, [], ◌∷◌, ◌++◌, Some}
+use Rattle.sbp_world.proofs.Words.Std.{arith, ◌≡◌, ◌∙◌, sym, ap, subst, ◌<◌, ◌≤◌, ◌+◌, ◌-◌, ◌/◌, ◌%◌, ◌&&◌, nat_eq, nat_le, nat_lt, nat_tests, ℕ, suc, true, false, cond, List, [], ◌∷◌, ◌++◌, Some, length}
 use Rattle.sbp_world.proofs.Words.Wire.{Access, Action, Moment, Note, Sending, SerialsCount, doorbell, management_agent, register, rom_start, said, start_at, terms}
 use Rattle.sbp_world.proofs.Words.Initiator.{rings}
 use Rattle.sbp_world.proofs.Words.Target.{Disk, agent_base}
@@ -11,8 +11,8 @@ use Rattle.sbp_journal.specs.declared.note.Note.TheVariants as notes
 use Rattle.sbp_laws.specs.Hosts.{is_serial, operation_of}
 use Rattle.sbp_laws.specs.Packets.{answered_in}
 use Rattle.sbp_world.specs.Completing.Bells.{WasBelled}
-use Rattle.sbp_world.specs.Completing.BellsFound.{IsBellFound}
-use Rattle.sbp_world.specs.Completing.BellsGot.{IsBehind, IsBellTaken}
+use Rattle.sbp_world.specs.Completing.BellsFound.{AreBellsFound, IsBellFound}
+use Rattle.sbp_world.specs.Completing.BellsGot.{IsBehind, IsBellTaken, AreBellsTaken}
 use Rattle.sbp_world.specs.Completing.Rung.{IsRung}
 use Rattle.sbp_world.specs.Pointers.Moments.{IsWritten, MayAsk, MayWrite, manages, writes_bell, writes_enable, writes_management, writes_pointer, writes_reset}
 use Rattle.sbp_world.proofs.Agents.Management.Still.{hist}
@@ -110,7 +110,7 @@ module _ {past : List Moment} (w : WorldState) (h : Stands past w) (start : List
   least : r ≤ (terms there).count
   least = let c = serial_is in let d = count_now back r written.generation (suc i) written.to written.bytes in omega (arith, c, d)
 
-  sent_now : (terms now).sent r ≡ Some packet
+  pub sent_now : (terms now).sent r ≡ Some packet
   sent_now = ap (λ ms. (terms ms).sent r) (sym written.is) ∙ ((remains written.front there counts).sent r least ∙ sent_there back r written.generation (suc i) written.to written.bytes)
 
   wires : WireMoments now
@@ -120,7 +120,7 @@ module _ {past : List Moment} (w : WorldState) (h : Stands past w) (start : List
   abbrev early : List Moment
   early = x.opening.before
 
-  got_wire : EachMoment WireAt (said (notes.Got s) ∷ early)
+  pub got_wire : EachMoment WireAt (said (notes.Got s) ∷ early)
   got_wire = each_from WireAt x.opening.later (said (notes.Got s) ∷ early) (subst WireMoments (sym x.opening.is) wires)
 
   back_is : (x.since ++ said (notes.Got s) ∷ []) ++ early ≡ back
@@ -129,12 +129,17 @@ module _ {past : List Moment} (w : WorldState) (h : Stands past w) (start : List
   early_counts : SerialsCount ((x.since ++ said (notes.Got s) ∷ []) ++ early)
   early_counts = subst SerialsCount (sym back_is) counts_there.1
 
+  pub early_less : (terms early).count < r
+  early_less =
+      let grown : (terms early).count ≤ (terms back).count = subst (λ ms. (terms early).count ≤ (terms ms).count) back_is (remains (x.since ++ said (notes.Got s) ∷ []) early early_counts).count in
+      let c = serial_is in
+      omega (arith, grown, c)
+
   pub later_than : s < r
   later_than =
       let at = sent_below early s got_wire.0.packet (serials_from (x.since ++ said (notes.Got s) ∷ []) early early_counts) got_wire.0.sent in
-      let grown : (terms early).count ≤ (terms back).count = subst (λ ms. (terms early).count ≤ (terms ms).count) back_is (remains (x.since ++ said (notes.Got s) ∷ []) early early_counts).count in
-      let c = serial_is in
-      omega (arith, at, grown, c)
+      let l = early_less in
+      omega (arith, at, l)
 
   -- ---- so it is a quadlet
   not_pointer : (host_at there i).pointer ≡ Some r → {A : Type 0} → A
@@ -216,3 +221,11 @@ module _ {past : List Moment} (w : WorldState) (h : Stands past w) (start : List
             let b = below in
             let is = serial_is in
             absurd (omega (arith, l, b, is))
+
+-- ---- at a place
+pub taken_at : (past : List Moment) (w : WorldState) (now : List Moment) → Stands past w → hist past w ≡ now → (start : List Disk) → ((i : ℕ) → i < length w.initiators → PointersAt now i) → ((i : ℕ) → i < length w.initiators → EachMoment (MayAsk i) now) → AreBellsFound start now w → AreBellsTaken start now w
+taken_at past w now h is start =
+    subst (λ ms. ((i : ℕ) → i < length w.initiators → PointersAt ms i) → ((i : ℕ) → i < length w.initiators → EachMoment (MayAsk i) ms) → AreBellsFound start ms w → AreBellsTaken start ms w) is
+    (λ pointers asks found i n k inside fresh written x.
+    is_taken w h start i n k (pointers i inside) (asks i inside) written x x.opening.place x.opening.small
+    (found i n k inside fresh written x (is_quadlet w h start i n k (pointers i inside) (asks i inside) written x)))

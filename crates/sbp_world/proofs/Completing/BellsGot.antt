@@ -1,13 +1,13 @@
 -- At a place of a run: what each ring wrote for a list that is present was got. Either it had been sent as the ORB_POINTER of the list was got, whose agent was in RESET then; or it is a DOORBELL that was got later.
-use Rattle.sbp_world.proofs.Words.Std.{◌≡◌, ◌∙◌, sym, ap, subst, inl, inr, ◌<◌, ◌≤◌, not, ℕ, suc, List, [], ◌∷◌, ◌++◌, length}
+use Rattle.sbp_world.proofs.Words.Std.{◌≡◌, ◌∙◌, sym, ap, subst, inl, inr, ◌<◌, ◌≤◌, not, ℕ, suc, List, [], ◌∷◌, ◌++◌, length, arith, refl, zero}
 use Rattle.sbp_world.proofs.Words.Wire.{Moment, said}
 use Rattle.sbp_world.proofs.Words.Target.{Disk, is_reset, state_in}
-use Rattle.sbp_world.proofs.Words.Laws.{ends, lists}
+use Rattle.sbp_world.proofs.Words.Laws.{ends, lists, injectors}
 use Rattle.sbp_world.proofs.Words.World.{AreApart, IsCalm, IsUp, WorldState}
 use Rattle.sbp_journal.specs.declared.note.Note.TheVariants as notes
 use Rattle.sbp_world.specs.Completing.Bells.{AllRungEnded, AreBellsGot, HasListThen, IsBellGot, KeepsList, WasBelled}
 use Rattle.sbp_world.specs.Completing.BellsGot.{AreBellsTaken, IsBellTaken}
-use Rattle.sbp_world.specs.Completing.BellsOpened.{HasOpening}
+use Rattle.sbp_world.specs.Completing.BellsOpened.{HasOpening, AreOpenings}
 use Rattle.sbp_world.specs.Completing.Present.{IsPresent, WasPointed}
 use Rattle.sbp_world.specs.Completing.Sights.{IsFresh, rung}
 use Rattle.sbp_world.proofs.Common.{moment_joined, moments_joined}
@@ -86,3 +86,13 @@ module _ (start : List Disk) (now : List Moment) (w : WorldState) (i n : ℕ) (i
     have_ended =
         subst (λ j. j < length w.initiators → IsCalm now j → suc n ≡ lists now j → AreBellsGot start now p.place j n → rung now j n ≤ ends now j n) p.own
         (λ within quiet latest bells. ended p.place n p.small within quiet p.list latest p.suspended bells) inside calm p.latest (subst (λ q. AreBellsGot start now q i n) same are_got)
+
+-- ---- at a place
+pub at_rest : (start : List Disk) (now : List Moment) (w : WorldState) → AreOpenings (injectors now) start now w → AreBellsTaken start now w → AreApart now w → AllRungEnded start now w → (i n : ℕ) → i < length w.initiators → IsCalm now i → IsFresh now i n → IsPresent now w i n → (0 < rung now i n → WasPointed now i n) → rung now i n ≤ ends now i n
+at_rest start now w openings taken apart ended i n inside calm fresh present pointed = by (rung now i n) refl
+  where
+    by : (count : ℕ) → rung now i n ≡ count → rung now i n ≤ ends now i n
+    by zero e = omega (arith, e)
+    by (suc k) e =
+        let x = pointed (omega (arith, e)) in
+        have_ended start now w i n inside fresh x (openings i n inside calm x fresh.uncut) taken calm apart present ended

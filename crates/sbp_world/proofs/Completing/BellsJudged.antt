@@ -17,7 +17,7 @@ got_by : (b : Bool) (x y : Judged × TargetScene) (w : Whole) → b ≡ false �
 got_by false x y w e f = f
 got_by true x y w e f = untrue (sym e)
 
-judged_got : (node : NodeState) (run : Option Told) (generation : ℕ) (bytes : List ℕ) (media : Held) (p : Packet) → (judging_step node.layer generation bytes).0 ≡ of_request p → is_barred node p ≡ false → (received run generation bytes (whole_of node media)).0 ≡ judgements.Got
+pub judged_got : (node : NodeState) (run : Option Told) (generation : ℕ) (bytes : List ℕ) (media : Held) (p : Packet) → (judging_step node.layer generation bytes).0 ≡ of_request p → is_barred node p ≡ false → (received run generation bytes (whole_of node media)).0 ≡ judgements.Got
 unfolding received serving_step is_barred
 judged_got node run generation bytes media p found free =
     ap (λ (f : Finding Purpose). (received_as run bytes f (with_layer (judging_step node.layer generation bytes).1 (whole_of node media))).0) found

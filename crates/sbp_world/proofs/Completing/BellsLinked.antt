@@ -1,7 +1,7 @@
 -- No ORB is rung that is not linked: a ring rings the last ORB of the present list that is linked, and the present list has one that is.
 use Rattle.sbp_world.proofs.Words.Std.{arith, ◌≡◌, ◌∙◌, refl, sym, ap, subst, ◌<◌, ◌≤◌, ◌-◌, max, not, nat_eq, nat_tests, ℕ, zero, suc, Bool, true, false, cond, List, [], ◌∷◌, ◌++◌, Option, Some, None, false≢true, same_Some}
 use Rattle.sbp_world.proofs.Words.Wire.{Action, Judged, Moment, Note, Side, asked, empty_outbox, judged_note, said}
-use Rattle.sbp_world.proofs.Words.Initiator.{InitiatorState, PresentList, Turn, act_step, expire_step, is_list, new_state, own, receive_step, see_step}
+use Rattle.sbp_world.proofs.Words.Initiator.{InitiatorState, Turn, act_step, expire_step, new_state, own, receive_step, see_step}
 use Rattle.sbp_world.proofs.Words.Laws.{EachMoment, event_of, present_list}
 use Rattle.sbp_world.proofs.Words.World.{AreRows, MayStand, behind}
 use Rattle.sbp_initiator.specs.Steps.{is_step}
@@ -10,12 +10,12 @@ use Rattle.sbp_journal.specs.declared.event.Event.TheVariants as events
 use Rattle.sbp_journal.specs.declared.note.Note.TheVariants as notes
 use Rattle.sbp_journal.specs.declared.side.Side.TheVariants as sides
 use Rattle.sbp_journal.specs.declared.cause.Judged.TheVariants as judgements
-use Rattle.sbp_laws.specs.Actions.{action_notes, buffer_of, link_notes, list_for, new_list, new_number}
+use Rattle.sbp_laws.specs.Actions.{action_notes, buffer_of, link_notes, new_list, new_number}
 use Rattle.sbp_laws.specs.Lists.{linked}
 use Rattle.sbp_world.specs.Completing.Bells.{AreRungLinked}
 use Rattle.sbp_world.specs.Completing.Sights.{rung}
 use Rattle.sbp_world.proofs.Common.{itself, untrue}
-use Rattle.sbp_world.proofs.Completing.PresentRung.{AllOfOther, acts_of_other, of_other, ring_none}
+use Rattle.sbp_world.proofs.Completing.PresentRung.{AllOfOther, acts_of_other, of_other, ring_present}
 use Rattle.sbp_world.proofs.Hosts.Carries.{Carries, is_apart}
 use Rattle.sbp_world.proofs.Hosts.Carrying.{last_from}
 use Rattle.sbp_world.proofs.Hosts.Lasting.{from_moment}
@@ -128,16 +128,7 @@ module _ (ready : Bool) (action : Action) (past : List Moment) (i : ℕ) (s : In
   sides_are = action_law.notes past s action empty_outbox (subst (λ j. AreRows past j s.lists.slots) (sym number) known.rows) done ∙ ap (λ j. own (action_notes action past j)) number
 
   present_then : action ≡ actions.Ring → present_list past i ≡ Some (new_list past i)
-  present_then e = by s.lists.slots.present refl
-    where
-      by : (p : Option PresentList) → s.lists.slots.present ≡ p → present_list past i ≡ Some (new_list past i)
-      by None n =
-          let sides_none : (act_step action empty_outbox s).1.0.sides ≡ [] = ap (λ a. (act_step a empty_outbox s).1.0.sides) e ∙ ring_none s n in
-          let told : own (action_notes actions.Ring past i) ≡ [] = ap (λ a. own (action_notes a past i)) (sym e) ∙ (sym sides_are ∙ sides_none) in
-          absurd (let z : sides.Own (notes.Rung i (new_list past i) (linked past i (new_list past i) - 1)) ∷ [] ≡ [] = told in cc)
-      by (Some list) n =
-          let is = h.guarded.shown list.tail.list (ap (λ p. is_list p list.tail.list) n ∙ itself list.tail.list) in
-          is ∙ ap (λ x. Some x) (sym (ap (list_for past i) is))
+  present_then e = ring_present action past i s sides_are h.guarded.shown e
 
   own_rings : Rings i (behind t.0.sides past)
   own_rings = subst (λ xs. Rings i (behind xs past)) (sym sides_are) (action_rings action past i present_then h.rings)

@@ -28,6 +28,7 @@ use Rattle.sbp_world.proofs.Lists.OpenTurns.{listing_up}
 use Rattle.sbp_world.proofs.Lists.Sites.{IsPrepared, Site, Waiting, named_prepared, waiting as agent_waiting}
 use Rattle.sbp_world.proofs.Lists.Slots.{orb_slot}
 use Rattle.sbp_world.proofs.Lists.StillTurns.{site_at}
+use Rattle.sbp_world.proofs.Lists.StillReads.{same_offset}
 
 -- ---- what is read ahead
 record NamesNext (l : OrbList) (ended : ℕ) (next : OrbPointer) : Type 0 where
@@ -62,9 +63,6 @@ asks_next : (ahead : ReadAhead) (next : OrbPointer) (offset : ℕ) (status : Boo
 asks_next aheads.Idle next offset status fifo access e a = absurd a
 asks_next (aheads.UnderWay rung) next offset status fifo access e a = subst (λ n. IsAccessFor (ahead_ask (aheads.UnderWay rung) n) status fifo access) e a
 asks_next (aheads.Kept orb) next offset status fifo access e a = absurd a
-
-same_offset : (a b : ℕ) → At a ≡ At b → a ≡ b
-same_offset a b e = cc
 
 -- ---- at a place
 -- what is known of it

@@ -1,7 +1,7 @@
 -- A rung ORB has its write of ORB_POINTER or DOORBELL: a ring sends one behind its `rung`, while its list is present, and nothing else that an initiator does rings an ORB.
-use Rattle.sbp_world.proofs.Words.Std.{arith, ◌≡◌, ◌∙◌, refl, sym, ap, subst, ◌<◌, ◌-◌, max, nat_eq, nat_tests, ℕ, zero, suc, Bool, true, false, cond, List, [], ◌∷◌, ◌++◌, Option, Some, None}
+use Rattle.sbp_world.proofs.Words.Std.{arith, ◌≡◌, ◌∙◌, refl, sym, ap, subst, ◌<◌, ◌-◌, max, nat_eq, nat_tests, ℕ, zero, suc, Bool, true, false, cond, List, [], ◌∷◌, ◌++◌, Some, None}
 use Rattle.sbp_world.proofs.Words.Wire.{Access, Action, Moment, Note, Outgoing, Side, Terms, asked, empty_outbox, judged_note, said, terms}
-use Rattle.sbp_world.proofs.Words.Initiator.{Demand, InitiatorState, LoginResponse, PresentList, Seat, Turn, act_step, carried, demand_of, expire_step, first_in, is_in_live, is_list, is_unwritten, list_number, new_state, own, receive_step, register_of, response_in, ring_demand, rings, see_step, session_of, start}
+use Rattle.sbp_world.proofs.Words.Initiator.{Demand, InitiatorState, LoginResponse, Seat, Turn, act_step, carried, expire_step, first_in, is_in_live, is_unwritten, list_number, new_state, own, receive_step, register_of, response_in, ring_demand, rings, see_step, session_of, start}
 use Rattle.sbp_world.proofs.Words.Laws.{access_in_bytes, event_of, host_at, present_list}
 use Rattle.sbp_world.proofs.Words.World.{AreRows, AreUnrefused, GotBlocks, behind, pointed_list, pointer_write, register_write}
 use Rattle.bus_memory.specs.declared.window.Window.TheVariants as windows
@@ -11,7 +11,7 @@ use Rattle.sbp_journal.specs.declared.event.Action.TheVariants as actions
 use Rattle.sbp_journal.specs.declared.event.Event.TheVariants as events
 use Rattle.sbp_journal.specs.declared.note.Note.TheVariants as notes
 use Rattle.sbp_journal.specs.declared.side.Side.TheVariants as sides
-use Rattle.sbp_laws.specs.Actions.{action_notes, buffer_of, link_notes, list_for, new_list, new_number}
+use Rattle.sbp_laws.specs.Actions.{action_notes, buffer_of, link_notes, new_list, new_number}
 use Rattle.sbp_laws.specs.Lists.{linked}
 use Rattle.sbp_session.specs.declared.seat.Seat.TheVariants as seats
 use Rattle.bus_transactions.specs.Packets.{SerialsCount}
@@ -19,7 +19,7 @@ use Rattle.bus_transactions.specs.Sent.{AreSent}
 use Rattle.sbp_world.specs.Completing.Bells.{AreBelled, IsBelledAt, IsBelledNear, WasBelled}
 use Rattle.sbp_world.specs.Completing.Sights.{rung}
 use Rattle.sbp_world.proofs.Common.{itself, untrue}
-use Rattle.sbp_world.proofs.Completing.PresentRung.{AllOfOther, acts_of_other, apart_rung, judged_rung, note_rung, of_other, ring_none, ring_sends}
+use Rattle.sbp_world.proofs.Completing.PresentRung.{AllOfOther, acts_of_other, apart_rung, judged_rung, note_rung, of_other, ring_present, ring_sends}
 use Rattle.sbp_world.proofs.Hosts.ActLeft.{act_left}
 use Rattle.sbp_world.proofs.Hosts.Carries.{Carries, IsLineOf}
 use Rattle.sbp_world.proofs.Hosts.Shown.{IsShown}
@@ -29,7 +29,7 @@ use Rattle.sbp_world.proofs.Hosts.OrbTells.{AreUnstepped}
 use Rattle.sbp_world.proofs.Hosts.PointerNotes.{Told, tame_told}
 use Rattle.sbp_world.proofs.Hosts.PointSees.{see_left}
 use Rattle.sbp_world.proofs.Hosts.Telling.{action_law}
-use Rattle.sbp_world.proofs.Lists.RingWrites.{act_steps, steps_login}
+use Rattle.sbp_world.proofs.Lists.RingWrites.{act_steps, steps_login, ring_asks}
 use Rattle.sbp_world.proofs.Pointers.BaseActs.{points_then}
 use Rattle.sbp_world.proofs.Pointers.Based.{asked_of, based_carried, first_based}
 use Rattle.sbp_world.proofs.Pointers.Basing.{Based}
@@ -219,11 +219,6 @@ live_agent : (seat : Seat) (login : LoginResponse) → is_in_live (session_of se
 live_agent (seats.Live live) login e h = ap (λ (r : LoginResponse). r.agent) (sym (h live.response refl))
 live_agent _ login e h = untrue e
 
-rings_ask : (action : Action) (s : InitiatorState) → rings action ≡ true → demand_of action s ≡ Some (ring_demand s)
-rings_ask (actions.Append cmd) s e = refl
-rings_ask actions.Ring s e = refl
-rings_ask _ s e = untrue e
-
 -- ---- what is carried on
 pub record Belled (ready : Bool) (past : List Moment) (i : ℕ) (s : InitiatorState) : Type 0 where
   pub based : Based ready past i s
@@ -258,16 +253,7 @@ module _ (ready : Bool) (action : Action) (past : List Moment) (i : ℕ) (s : In
       by false r = own_quiet r
 
   present_then : action ≡ actions.Ring → present_list past i ≡ Some (new_list past i)
-  present_then e = by s.lists.slots.present refl
-    where
-      by : (p : Option PresentList) → s.lists.slots.present ≡ p → present_list past i ≡ Some (new_list past i)
-      by None n =
-          let sides_none : (act_step action empty_outbox s).1.0.sides ≡ [] = ap (λ a. (act_step a empty_outbox s).1.0.sides) e ∙ ring_none s n in
-          let told : own (action_notes actions.Ring past i) ≡ [] = ap (λ a. own (action_notes a past i)) (sym e) ∙ (sym sides_are ∙ sides_none) in
-          absurd (let z : sides.Own (notes.Rung i (new_list past i) (linked past i (new_list past i) - 1)) ∷ [] ≡ [] = told in cc)
-      by (Some list) n =
-          let is = h.based.guarded.shown list.tail.list (ap (λ p. is_list p list.tail.list) n ∙ itself list.tail.list) in
-          is ∙ ap (λ x. Some x) (sym (ap (list_for past i) is))
+  present_then e = ring_present action past i s sides_are h.based.guarded.shown e
 
   module _ (packet : Outgoing) (one : t.0.packets ≡ packet ∷ []) (serial generation : ℕ) (honest : (terms past).injected serial ≡ false) where
     told : Told past t.0.sides i
@@ -287,7 +273,7 @@ module _ (ready : Bool) (action : Action) (past : List Moment) (i : ℕ) (s : In
     writing : rings action ≡ true → IsWriting (behind t.0.sides past) i serial 0 packet.bytes action
     writing r =
         let has = act_bytes action s packet done one in
-        let demand : ring_demand s ≡ has.demand = (let x = sym (rings_ask action s r) ∙ has.is in cc) in
+        let demand : ring_demand s ≡ has.demand = (let x = sym (ring_asks action s r) ∙ has.is in cc) in
         let w = ring_writes s in
         record {
           line = told.line ∙ line;

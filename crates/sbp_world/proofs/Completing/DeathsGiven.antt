@@ -6,7 +6,8 @@ use Rattle.sbp_world.proofs.Words.Initiator.{Answer}
 use Rattle.sbp_world.proofs.Words.Laws.{fifo_in, term_login, over, target_at}
 use Rattle.sbp_world.proofs.Words.World.{IsAccessFor, IsTame, WorldState, after, after_all, beginning, begun, history_of, initiator_in, machine_at, more_deliveries}
 use Rattle.command_agent.specs.declared.phase.Phase.TheVariants as phases
-use Rattle.sbp_world.specs.Completing.Deaths.{AreGiven, GivenLaw, IsAnswered, IsGiven, IsWhole, MainAnswered}
+use Rattle.sbp_world.specs.Completing.Deaths.{AreGiven, IsAnswered, IsGiven, IsWhole, MainAnswered, MainAnsweredThere, WhereKept}
+use Rattle.sbp_world.specs.Completing.Labels.{AlwaysWhere}
 use Rattle.sbp_world.proofs.Agents.Management.Holding.{Holding}
 use Rattle.sbp_world.proofs.Agents.Management.Still.{hist}
 use Rattle.sbp_world.proofs.Completing.LabelsPlaces.{IsHolding, holding_everywhere}
@@ -60,16 +61,16 @@ place_given start now w h kit tame answered =
     are_given h.units h.ready h.has start w h.holds (site_at start h.past w (subst (λ ms. main_slots.Kit start ms w) back kit).ground) (subst IsTame back tame) (subst (λ ms. MainAnswered start ms w) back answered)
 
 -- ---- each place of a run
-pub given_law : GivenLaw
-given_law answered = record {
-  after_lines = λ line run r has small size tame legal l few.
+pub given_where : (While : List Moment → Type 0) → AlwaysWhere While MainAnsweredThere → AlwaysWhere While (WhereKept AreGiven)
+given_where While answered = record {
+  after_lines = λ line run r has small size so tame legal l few.
       place_given run.start.disks (history_of line run) (after (beginning run) run.entries).world (holding_everywhere.after_lines line run r has small size)
       ((kit_everywhere short_law open_lists_law).after_lines line run r has small size (closing.before open_lists_law line run r has small size (inl tame))) tame
-      (answered.after_lines line run r has small size tame legal l few);
-  between = λ line run r has small size next most told m tame legal l few.
+      (answered.after_lines line run r has small size so tame legal l few);
+  between = λ line run r has small size next most told m so tame legal l few.
       let event = more_deliveries most in
       place_given run.start.disks (map said (after_all told (begun (after (beginning run) run.entries))).world.fresh ++ asked next event ∷ history_of line run) (after_all told (begun (after (beginning run) run.entries))).world
       (holding_everywhere.between line run r has small size next most told m)
       ((kit_everywhere short_law open_lists_law).between line run r has small size next most told m (closing.between open_lists_law line run r has small size next event (more_than_one most) told m (inl tame))) tame
-      (answered.between line run r has small size next most told m tame legal l few);
+      (answered.between line run r has small size next most told m so tame legal l few);
 }

@@ -17,8 +17,8 @@ use Rattle.sbp_target.proofs.Histories.Calling.{Good, not_eight}
 use Rattle.sbp_target.proofs.Histories.Following.{IsServed}
 use Rattle.sbp_target.proofs.Histories.Settled.{reaches}
 use Rattle.target_base.specs.declared.address.Demand.TheVariants as demands
-use Rattle.sbp_world.specs.Completing.Deaths.{AreGiven, AreLegal, DeliveriesGoOn, GoesOn, GoesOnThere, IsLegal, IsLegalAt, LivingLaw, WhereKept, WritesFind}
-use Rattle.sbp_world.specs.Completing.Labels.{AlwaysFrom}
+use Rattle.sbp_world.specs.Completing.Deaths.{AreGiven, AreLegal, DeliveriesGoOn, GoesOn, GoesOnThere, IsLegal, IsLegalAt, NoneDied, WhereKept, WritesFind}
+use Rattle.sbp_world.specs.Completing.Labels.{AlwaysFrom, AlwaysWhere}
 use Rattle.sbp_world.specs.Completing.LabelsAsked.{IsNoWrite, MayAsk}
 use Rattle.sbp_world.specs.Completing.LabelsFound.{FindsLabels}
 use Rattle.sbp_world.proofs.Agents.Management.Holding.{Holding}
@@ -28,7 +28,7 @@ use Rattle.sbp_world.proofs.Agents.Mild as milds
 use Rattle.sbp_world.proofs.Agents.Purposes.{g}
 use Rattle.sbp_world.proofs.Common.{none_is}
 use Rattle.sbp_world.proofs.Completing.DeathsReplies.{replies_live}
-use Rattle.sbp_world.proofs.Completing.DeathsRuns.{none_dies_law}
+use Rattle.sbp_world.proofs.Completing.DeathsRuns.{none_dies_where}
 use Rattle.sbp_world.proofs.Completing.DeathsTold.{read_asks}
 use Rattle.sbp_world.proofs.Completing.LabelsFound.{found_law}
 use Rattle.sbp_world.proofs.Completing.LabelsPlaces.{IsHolding, holding_everywhere}
@@ -233,17 +233,17 @@ place_goes start now w h kit lists along brought tame legal finds given writes =
     (subst (λ ms. (i : ℕ) → IsCalm ms i → AllBrought ms w i) back brought) (subst IsTame back tame) (subst AreLegal back legal)
     (subst (λ ms. (i : ℕ) → i < length w.initiators → FindsLabels w.target.layer (id_for (terms ms) 0 (suc i))) back finds) given writes
 
-module _ (all_given : AlwaysFrom (WhereKept AreGiven)) (all_find : AlwaysFrom (WhereKept WritesFind)) where
-  going : AlwaysFrom GoesOnThere
+module _ (While : List Moment → Type 0) (all_given : AlwaysWhere While (WhereKept AreGiven)) (all_find : AlwaysFrom (WhereKept WritesFind)) where
+  going : AlwaysWhere While GoesOnThere
   going = record {
-    after_lines = λ line run r has small size tame legal l few.
+    after_lines = λ line run r has small size so tame legal l few.
         let before = closing.before open_lists_law line run r has small size (inl tame) in
         let lists = open_lists_law.after_lines line run r has small size (inl tame) in
         place_goes run.start.disks (history_of line run) (after (beginning run) run.entries).world (holding_everywhere.after_lines line run r has small size)
         ((kit_everywhere short_law open_lists_law).after_lines line run r has small size before) lists (along_law.after_lines line run r has small size before) (brings_law.after_lines line run r has small size before lists) tame legal
         (λ i b. found_law.after_lines line run r has small size tame l i b (few i b))
-        (all_given.after_lines line run r has small size tame legal l few) (all_find.after_lines line run r has small size tame legal l few);
-    between = λ line run r has small size next most told m tame legal l few.
+        (all_given.after_lines line run r has small size so tame legal l few) (all_find.after_lines line run r has small size tame legal l few);
+    between = λ line run r has small size next most told m so tame legal l few.
         let event = more_deliveries most in
         let d = more_than_one most in
         let before = closing.between open_lists_law line run r has small size next event d told m (inl tame) in
@@ -252,8 +252,8 @@ module _ (all_given : AlwaysFrom (WhereKept AreGiven)) (all_find : AlwaysFrom (W
         place_goes run.start.disks (map said w.fresh ++ asked next event ∷ history_of line run) w (holding_everywhere.between line run r has small size next most told m)
         ((kit_everywhere short_law open_lists_law).between line run r has small size next most told m before) lists (along_law.between line run r has small size next event d told m before) (brings_law.between line run r has small size next event d told m before lists) tame legal
         (λ i b. found_law.between line run r has small size next most told m tame l i b (few i b))
-        (all_given.between line run r has small size next most told m tame legal l few) (all_find.between line run r has small size next most told m tame legal l few);
+        (all_given.between line run r has small size next most told m so tame legal l few) (all_find.between line run r has small size next most told m tame legal l few);
   }
 
-pub living_law : LivingLaw
-living_law all_given all_find = none_dies_law (going all_given all_find)
+pub living_where : (While : List Moment → Type 0) → ((later past : List Moment) → While (later ++ past) → While past) → AlwaysWhere While (WhereKept AreGiven) → AlwaysFrom (WhereKept WritesFind) → AlwaysWhere While NoneDied
+living_where While back all_given all_find = none_dies_where While back (going While all_given all_find)

@@ -11,8 +11,8 @@ use Rattle.std.specs.List.{list_any}
 use Rattle.sbp_journal.specs.declared.event.Event.TheVariants as events
 use Rattle.sbp_laws.specs.MediaLaw.{is_pending}
 use Rattle.sbp_world.specs.Completing.Sights.{AreFewOfCutLists, since_sight}
-use Rattle.sbp_world.specs.Completing.Deaths.{AreFewNow, AreLegal, DeliveryGoesOn, GoesOnThere, IsLegalAt, NoneDiesLaw}
-use Rattle.sbp_world.specs.Completing.Labels.{AlwaysFrom, LosesNothing, is_nobodys, labels, of_cut_lists}
+use Rattle.sbp_world.specs.Completing.Deaths.{AreFewNow, AreLegal, DeliveryGoesOn, GoesOnThere, IsLegalAt, NoneDied}
+use Rattle.sbp_world.specs.Completing.Labels.{AlwaysFrom, AlwaysWhere, LosesNothing, is_nobodys, labels, of_cut_lists}
 use Rattle.sbp_world.proofs.Agents.Management.Holding.{past_terms}
 use Rattle.sbp_world.proofs.Agents.Management.Still.{hist}
 use Rattle.sbp_world.proofs.Completing.DeathsHistory.{AreLive, Lives, none_dies, turn_lives}
@@ -41,7 +41,7 @@ cut_opened (events.Reset physical) T t i = refl
 cut_opened (events.Repeat serial) T t i = refl
 cut_opened _ T t i = refl
 
-cut_asked : (start : List Disk) (line : ℕ) (event : Event) (past : List Moment) (i : ℕ) → of_cut_lists start (asked line event ∷ past) i ≡ of_cut_lists start past i
+pub cut_asked : (start : List Disk) (line : ℕ) (event : Event) (past : List Moment) (i : ℕ) → of_cut_lists start (asked line event ∷ past) i ≡ of_cut_lists start past i
 cut_asked start line event past i =
     cut_opened event (over (over (target_at start past))) (terms past) i ∙ ap (λ (T : Target). cut_in T (terms past) i) (over_twice (target_at start past))
 
@@ -112,12 +112,6 @@ module _ (may : May) (tell : OthersTell may) where
     }
 
 -- ---- deaths
-abbrev IsPlain : List Moment → Type 0
-IsPlain past = IsTame past × AreLegal past
-
-plain_steady : IsSteady IsPlain
-plain_steady = record { before = λ later past p. (tame_before later past p.0, each_from IsLegalAt later past p.1); tame = λ past p. p.0 }
-
 others_tell : OthersTell deathless
 unfolding target_sees target_ticks
 others_tell = record {
@@ -129,18 +123,25 @@ delivery_tells : (run : Option Told) (sent : Sent) (node : NodeState) (media : H
 unfolding target_received
 delivery_tells run sent node media may goes = lives_said _ (hand_law.received run sent node media may) (deliveries_live run sent.generation sent.bytes node media.disks goes)
 
-deliveries_tell : AlwaysFrom GoesOnThere → AlwaysFrom (λ start past w. IsPlain past → Going deathless others_tell start past w)
-deliveries_tell goes = record {
-  after_lines = λ line run r has small size p l few sent f told media may.
-      delivery_tells told sent (after (beginning run) run.entries).world.target media may (goes.after_lines line run r has small size p.0 p.1 l few sent f told media may);
-  between = λ line run r has small size next most told m p l few sent f one media may.
-      delivery_tells one sent (after_all told (begun (after (beginning run) run.entries))).world.target media may (goes.between line run r has small size next most told m p.0 p.1 l few sent f one media may);
-}
+module _ (While : List Moment → Type 0) (back : (later past : List Moment) → While (later ++ past) → While past) where
+  abbrev IsPlain : List Moment → Type 0
+  IsPlain past = IsTame past × (AreLegal past × While past)
 
-pub none_dies_law : NoneDiesLaw
-none_dies_law goes =
-    let told_so = tells_law deathless others_tell IsPlain plain_steady (deliveries_tell goes) in
-    record {
-      after_lines = λ line run r has small size tame legal kept few. none_dies _ (told_so.after_lines line run r has small size (tame, legal) kept few);
-      between = λ line run r has small size next most told m tame legal kept few. none_dies _ (told_so.between line run r has small size next most told m (tame, legal) kept few);
-    }
+  plain_steady : IsSteady IsPlain
+  plain_steady = record { before = λ later past p. (tame_before later past p.0, (each_from IsLegalAt later past p.1.0, back later past p.1.1)); tame = λ past p. p.0 }
+
+  deliveries_tell : AlwaysWhere While GoesOnThere → AlwaysFrom (λ start past w. IsPlain past → Going deathless others_tell start past w)
+  deliveries_tell goes = record {
+    after_lines = λ line run r has small size p l few sent f told media may.
+        delivery_tells told sent (after (beginning run) run.entries).world.target media may (goes.after_lines line run r has small size p.1.1 p.0 p.1.0 l few sent f told media may);
+    between = λ line run r has small size next most told m p l few sent f one media may.
+        delivery_tells one sent (after_all told (begun (after (beginning run) run.entries))).world.target media may (goes.between line run r has small size next most told m p.1.1 p.0 p.1.0 l few sent f one media may);
+  }
+
+  pub none_dies_where : AlwaysWhere While GoesOnThere → AlwaysWhere While NoneDied
+  none_dies_where goes =
+      let told_so = tells_law deathless others_tell IsPlain plain_steady (deliveries_tell goes) in
+      record {
+        after_lines = λ line run r has small size so tame legal kept few. none_dies _ (told_so.after_lines line run r has small size (tame, (legal, so)) kept few);
+        between = λ line run r has small size next most told m so tame legal kept few. none_dies _ (told_so.between line run r has small size next most told m (tame, (legal, so)) kept few);
+      }

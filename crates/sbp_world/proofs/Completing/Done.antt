@@ -9,25 +9,24 @@ use Rattle.sbp_laws.specs.Budget.{Lossless}
 use Rattle.sbp_laws.specs.Completion.{in_the_air}
 use Rattle.sbp_laws.specs.Lists.{is_none_taken}
 use Rattle.sbp_world.specs.Completing.Deaths.{NoneDied, NoneDies}
-use Rattle.sbp_world.specs.Completing.Done.{DoneLaw, NoneDead, NoneFails, OperationsEnd, RungEnded, RungOrbsCompleteThere, RungPremises}
+use Rattle.sbp_world.specs.Completing.Done.{NoneDead, NoneFails, RungEnded, RungOrbsCompleteLaw, RungOrbsCompleteThere}
 use Rattle.sbp_world.specs.Completing.Ends.{NoneFailed, NoneManagesFail}
-use Rattle.sbp_world.specs.Completing.Labels.{AlwaysFrom, LosesNothing}
-use Rattle.sbp_world.specs.Completing.Managed.{ManagedFindsThere, ManagedGivenThere}
+use Rattle.sbp_world.specs.Completing.Labels.{LosesNothing}
 use Rattle.sbp_world.specs.Completing.Operations.{AtRest, HaveNoReads}
+use Rattle.sbp_world.specs.Completing.OperationsEnd.{OperationsEnd}
 use Rattle.sbp_world.specs.Completing.Present.{FreshPresent}
 use Rattle.sbp_world.specs.Completing.RestStatuses.{AreTaken, HasDead}
 use Rattle.sbp_world.specs.Completing.Sights.{IsFresh, rung, since_sight}
+use Rattle.sbp_world.proofs.Completing.BellsFewRuns.{rung_ended_few_law}
 use Rattle.sbp_world.proofs.Completing.DeadKnownRuns.{dead_known_law}
-use Rattle.sbp_world.proofs.Completing.EndsRuns.{none_fails_law}
+use Rattle.sbp_world.proofs.Completing.EndsEverywhere.{none_failed_law, none_left_law}
 use Rattle.sbp_world.proofs.Completing.LabelsResting.{lossless_law}
-use Rattle.sbp_world.proofs.Completing.ManagedFinding.{managed_finds_law}
 use Rattle.sbp_world.proofs.Completing.OperationsRuns.{no_reads_law}
 use Rattle.sbp_world.proofs.Completing.PresentLaws.{fresh_few_law}
 use Rattle.sbp_world.proofs.Completing.PresentRest.{ended_taken}
 use Rattle.sbp_world.proofs.Completing.RestStatuses.{rest_statuses_law}
 use Rattle.sbp_world.proofs.Counting.StartCounted.{counted_after, counted_between}
-use Rattle.sbp_world.proofs.Completing.ShutLogins.{given_where_latest_law}
-use Rattle.sbp_world.proofs.Completing.WritesLives.{accepted_lives_law}
+use Rattle.sbp_world.proofs.Completing.WritesLives.{lives_few_law}
 
 -- ---- of two that fail none does
 none_fails : (ms : List Moment) → NoneDies ms → NoneManagesFail ms → NoneFails ms
@@ -40,11 +39,11 @@ none_fails (said note ∷ ms) dies fails = none_fails ms dies fails
 -- ---- at a place
 -- what is so there
 record Holds (start : List Disk) (past : List Moment) (w : WorldState) : Type 0 where
-  died : NoneDied start past w
+  died : FewLogins past → NoneDied start past w
   failed : NoneFailed start past w
   over : OperationsEnd start past w
   present : FewLogins past → FreshPresent past w
-  ended : RungEnded start past w
+  ended : FewLogins past → RungEnded start past w
   dead : NoneDead past w
   loses : Lossless past → LosesNothing past
   statuses : Lossless past → in_the_air past ≡ 0 → AreTaken past w
@@ -66,7 +65,7 @@ done_there start past w so tame logins legal lossless calm few = record {
     kept = h.loses lossless
 
     none_died : NoneDies (since_sight 0 past)
-    none_died = h.died tame legal kept.kept few
+    none_died = h.died logins tame legal kept.kept few
 
     alive : (i : ℕ) → HasDead w i → ⊥
     alive = h.dead tame kept.seen none_died
@@ -77,39 +76,20 @@ done_there start past w so tame logins legal lossless calm few = record {
     taken_in : (i n k : ℕ) → IsFresh past i n → k < rung past i n → i < length w.initiators → is_none_taken (taken_at past i n k) ≡ false
     taken_in i n k fresh less b =
         let o = h.present logins tame lossless calm i n b (alive i) fresh (omega (arith, less)) in
-        let all = h.ended tame lossless calm i n b fresh o in
+        let all = h.ended logins tame lossless calm i n b fresh o in
         ended_taken past w i n b (tame i) (h.statuses lossless calm) (alive i) fresh.uncut o k (omega (arith, less, all))
 
 -- ---- in every run
-finds : AlwaysFrom ManagedFindsThere
-finds = record {
-  after_lines = λ line run r has small size tame loses few. managed_finds_law.after_lines line run r has small size tame;
-  between = λ line run r has small size next most told m tame loses few. managed_finds_law.between line run r has small size next most told m tame;
-}
-
-module _ (p : RungPremises) where
-  given : AlwaysFrom ManagedGivenThere
-  given = record {
-    after_lines = λ line run r has small size tame loses few. given_where_latest_law.after_lines line run r has small size tame (p.logins.after_lines line run r has small size tame);
-    between = λ line run r has small size next most told m tame loses few. given_where_latest_law.between line run r has small size next most told m tame (p.logins.between line run r has small size next most told m tame);
-  }
-
-  none_died_law : AlwaysFrom NoneDied
-  none_died_law = accepted_lives_law p.latest
-
-  none_failed_law : AlwaysFrom NoneFailed
-  none_failed_law = none_fails_law given finds
-
-pub done_law : DoneLaw
-done_law p = record {
+pub rung_orbs_complete_law : RungOrbsCompleteLaw
+rung_orbs_complete_law = record {
   after_lines = λ line run r has small size.
       done_there run.start.disks (history_of line run) (after (beginning run) run.entries).world
       (λ tame. record {
-        died = (none_died_law p).after_lines line run r has small size;
-        failed = (none_failed_law p).after_lines line run r has small size;
-        over = p.operations_end.after_lines line run r has small size;
+        died = lives_few_law.after_lines line run r has small size;
+        failed = none_failed_law.after_lines line run r has small size;
+        over = none_left_law.after_lines line run r has small size;
         present = fresh_few_law.after_lines line run r has small size;
-        ended = p.ended.after_lines line run r has small size;
+        ended = rung_ended_few_law.after_lines line run r has small size;
         dead = dead_known_law.after_lines line run r has small size;
         loses = lossless_law.after_lines line run r has small size;
         statuses = rest_statuses_law.after_lines line run r has small size (inl tame);
@@ -119,11 +99,11 @@ done_law p = record {
   between = λ line run r has small size next most told m.
       done_there run.start.disks (map said (after_all told (begun (after (beginning run) run.entries))).world.fresh ++ asked next (more_deliveries most) ∷ history_of line run) (after_all told (begun (after (beginning run) run.entries))).world
       (λ tame. record {
-        died = (none_died_law p).between line run r has small size next most told m;
-        failed = (none_failed_law p).between line run r has small size next most told m;
-        over = p.operations_end.between line run r has small size next most told m;
+        died = lives_few_law.between line run r has small size next most told m;
+        failed = none_failed_law.between line run r has small size next most told m;
+        over = none_left_law.between line run r has small size next most told m;
         present = fresh_few_law.between line run r has small size next most told m;
-        ended = p.ended.between line run r has small size next most told m;
+        ended = rung_ended_few_law.between line run r has small size next most told m;
         dead = dead_known_law.between line run r has small size next most told m;
         loses = lossless_law.between line run r has small size next most told m;
         statuses = rest_statuses_law.between line run r has small size next most told m (inl tame);

@@ -47,7 +47,7 @@ module _ (m : Moment) (past : List Moment) (rises : RisesAt m past) (B : ℕ) (l
   kept_apart : is_reset m ≡ false → AreKept past
   kept_apart f = let grow = bus_grows m past rises in kept_behind m past f (kept (omega (arith, grow, low, e)))
 
-kept_back : (m : Moment) (past : List Moment) (rises : RisesAt m past) (B : ℕ) (low : (terms (m ∷ past)).bus ≤ B) (kept : (terms (m ∷ past)).bus ≡ B → AreKept (m ∷ past)) (e : (terms past).bus ≡ B) → AreKept past
+pub kept_back : (m : Moment) (past : List Moment) (rises : RisesAt m past) (B : ℕ) (low : (terms (m ∷ past)).bus ≤ B) (kept : (terms (m ∷ past)).bus ≡ B → AreKept (m ∷ past)) (e : (terms past).bus ≡ B) → AreKept past
 kept_back (said (notes.Reset generation)) past rises B low kept e = absurd (omega (arith, rises, low, e))
 kept_back (said note) past rises B low kept e = kept_apart (said note) past rises B low kept e refl
 kept_back (asked line event) past rises B low kept e = kept_apart (asked line event) past rises B low kept e refl

@@ -1,5 +1,5 @@
 -- While an operation is under way, a write of MANAGEMENT_AGENT that the target gets leaves it as it is, and is answered with conflict_error: that is all that the target hands out.
-use Rattle.sbp_world.proofs.Words.Std.{arith, ◌≡◌, ◌∙◌, refl, sym, ap, subst, ℕ, ◌+◌, ◌*◌, ◌/◌, ◌%◌, ◌^◌, false, cond, List, [], length, Option, Some, None, big_bytes, big_from-bytes}
+use Rattle.sbp_world.proofs.Words.Std.{arith, ◌≡◌, ◌∙◌, refl, sym, subst, ℕ, ◌+◌, ◌*◌, ◌/◌, ◌%◌, ◌^◌, false, cond, List, [], length, Option, Some, None}
 use Rattle.sbp_world.proofs.Words.Wire.{Header, Packet, canon, empty_outbox, judging_step, of_request, rcode_of, response_to, three, write_block}
 use Rattle.sbp_world.proofs.Words.Wire.{Judged, Layer, answering_step}
 use Rattle.sbp_world.proofs.Words.Target.{Disk, Told, NodeState, Operation, Purpose, Scene, Whole, address_error, answer_step, answered, demand_of, is_barred, judged_scene, received, received_as, scene, serve, served_as, serving_step, start, started_by, whole}
@@ -9,18 +9,15 @@ use Rattle.sbp_journal.specs.declared.cause.Judged.TheVariants as judgements
 use Rattle.target_base.specs.declared.address.Demand.TheVariants as demands
 use Rattle.sbp_world.specs.Completing.Ends.{BusyRefuses, IsRefusal}
 use Rattle.sbp_world.proofs.Common.{none_is}
+use Rattle.sbp_world.proofs.Lists.ManageCodes.{rcode_three}
 
 -- ---- the rcode of the response to a write
-code_in_three : (a b c : ℕ) → rcode_of (three a b c) ≡ b % 256 ^ 4 / 2 ^ 12 % 2 ^ 4
-unfolding rcode_of three
-code_in_three a b c = ap (λ n. n / 2 ^ 12 % 2 ^ 4) (big_from-bytes 4 b (big_bytes 4 c))
-
 code_is : (node : ℕ) → (node * 2 ^ 16 + 4 * 2 ^ 12) % 256 ^ 4 / 2 ^ 12 % 2 ^ 4 ≡ 4
 code_is node = omega arith
 
 refusal_code : (node : ℕ) (header : Header) (offset : ℕ) (payload : List ℕ) → rcode_of (canon (response_to node (write_block header offset payload) 4 [])) ≡ 4
 unfolding three
-refusal_code node header offset payload = code_in_three (header.source * 2 ^ 16 + header.label * 2 ^ 10 + 1 * 2 ^ 8 + 2 * 2 ^ 4 + 0) (node * 2 ^ 16 + 4 * 2 ^ 12) 0 ∙ code_is node
+refusal_code node header offset payload = rcode_three (header.source * 2 ^ 16 + header.label * 2 ^ 10 + 1 * 2 ^ 8 + 2 * 2 ^ 4 + 0) (node * 2 ^ 16 + 4 * 2 ^ 12) 0 ∙ code_is node
 
 -- ---- a write that is got
 module _ (run : Option Told) (generation : ℕ) (bytes : List ℕ) (node : NodeState) (disks : List Disk) (header : Header) (offset : ℕ) (payload : List ℕ) (orb : ℕ) (own : Operation) (found : (judging_step node.layer generation bytes).0 ≡ of_request (write_block header offset payload)) (bar : is_barred node (write_block header offset payload) ≡ false) (demand : demand_of (length node.rom) (write_block header offset payload) ≡ demands.Manage orb) (busy : node.manager.operation ≡ Some own) where

@@ -81,7 +81,7 @@ risen_always [] may = tt
 risen_always (move ∷ moves) may = move_rises (after_moves moves) (all_stand moves may.1) move may.0 (risen_always moves may.1)
 
 -- ---- the latest generation does not fall, and no node is in a later one
-opened_bus : (event : Event) (t : Terms) → (opened event t).bus ≡ t.bus
+pub opened_bus : (event : Event) (t : Terms) → (opened event t).bus ≡ t.bus
 opened_bus (events.Reset physical) t = refl
 opened_bus (events.Repeat serial) t = refl
 opened_bus _ t = refl
@@ -147,7 +147,7 @@ both (said note) past r old node = apart_both (said note) past r old node refl
 both (asked line event) past r old node = apart_both (asked line event) past r old node refl
 
 -- no node is in a later one
-aged : (past : List Moment) → AreRisen past → (node : ℕ) → (terms past).generation node ≤ (terms past).bus
+pub aged : (past : List Moment) → AreRisen past → (node : ℕ) → (terms past).generation node ≤ (terms past).bus
 aged [] r node = omega arith
 aged (m ∷ past) r node = (both m past r.0 (aged past r.1) node).1
 
@@ -162,7 +162,7 @@ by_row false x causes.Source e other = untrue e
 by_row false x causes.Login e other = untrue e
 by_row false x causes.Slot e other = untrue e
 
-current_row : (f : RowFacts) (cause : Cause) → may_ignore_by (row_of f) cause ≡ true → (cause ≡ causes.Generation → ⊥) → f.is_current ≡ true
+pub current_row : (f : RowFacts) (cause : Cause) → may_ignore_by (row_of f) cause ≡ true → (cause ≡ causes.Generation → ⊥) → f.is_current ≡ true
 current_row f cause e other = by_row f.is_current _ cause e other
 
 -- ---- where a packet is taken as new

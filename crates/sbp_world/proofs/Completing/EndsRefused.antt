@@ -1,5 +1,5 @@
 -- A write of MANAGEMENT_AGENT that the target answered with conflict_error is not answered complete later: while it is the present request of its transaction, that keeps the rcode.
-use Rattle.sbp_world.proofs.Words.Std.{append_assoc, arith, nat_tests, ◌≡◌, ◌∙◌, ◌⊎◌, inl, inr, refl, sym, ap, subst, ℕ, suc, ◌+◌, ◌<◌, ◌≤◌, nat_eq, Bool, true, false, cond, List, [], ◌∷◌, ◌++◌, map, Option, Some, None, upd}
+use Rattle.sbp_world.proofs.Words.Std.{append_assoc, arith, nat_tests, ◌≡◌, ◌∙◌, ◌⊎◌, inl, inr, refl, sym, ap, subst, ℕ, suc, ◌<◌, ◌≤◌, nat_eq, Bool, true, false, cond, List, [], ◌∷◌, ◌++◌, map, Option, Some, None}
 use Rattle.sbp_world.proofs.Words.Wire.{Cause, Moment, Owed, Sending, SerialsCount, Terms, Transaction, arrives, asked, asked_by, asked_in, begun_by, ignores, ignores_that, is_news, is_same, is_served, is_stated, judges, judges_if, part_of, rcode_of, request, said, terms, writing}
 use Rattle.sbp_world.proofs.Words.Target.{Disk}
 use Rattle.sbp_world.proofs.Words.World.{IsCalm, IsOwnWrite, WorldState, after, after_all, beginning, begun, history_of, more_deliveries}
@@ -21,18 +21,11 @@ use Rattle.sbp_world.proofs.Lists.ManageMoments.{Hands, MayHand}
 use Rattle.sbp_world.proofs.Lists.ManageProved.{one_in_hand_law}
 use Rattle.sbp_world.proofs.Lists.ManageSends.{by_given, given_behind, opened_terms, sent_given, sent_other, sent_terms}
 use Rattle.sbp_world.proofs.Lists.ManageSent.{SentFacts}
-use Rattle.sbp_world.proofs.Lists.ManageTerms.{got_more, got_owes, got_request, got_rests, ignored_rests, none_is, same_some, timed_owes, timed_rests}
+use Rattle.sbp_world.proofs.Lists.ManageTerms.{got_more, got_owes, got_request, got_rests, ignored_rests, none_is, same_some, timed_owes, timed_rests, one_more}
 use Rattle.sbp_world.proofs.Common.{untrue}
 use Rattle.sbp_world.proofs.Wire.Starts.{laws_of}
 
 -- ---- what is owed behind a packet that is ignored: where that is not for its coming again, it is taken as new once more
-one_more : (s : ℕ) (f : ℕ → ℕ) → f s < upd f s (f s + 1) s
-one_more s f = by (nat_eq s s) (grind (arith, nat_tests))
-  where
-    by : (b : Bool) → b ≡ true → f s < cond b (f s + 1) (f s)
-    by true e = omega arith
-    by false e = untrue e
-
 -- the request that is owed is an old one; or it is this, which came again, or is new
 abbrev Owes : (t u : Terms) (s : ℕ) → Owed → Type 0
 Owes t u s owed = (t.owes ≡ Some owed) ⊎ ((owed.serial ≡ s) × ((owed.cause ≡ Some causes.Again) ⊎ (t.news s < u.news s)))
@@ -80,7 +73,7 @@ moment_news (said (notes.Ignored s cause)) h r = (ignored_rests s cause h).news 
 moment_news (said (notes.TimedOut s)) h r = (timed_rests s h).news r
 moment_news (said note) h r = omega arith
 
-news_grow : (later h : List Moment) (r : ℕ) → (terms h).news r ≤ (terms (later ++ h)).news r
+pub news_grow : (later h : List Moment) (r : ℕ) → (terms h).news r ≤ (terms (later ++ h)).news r
 news_grow [] h r = omega arith
 news_grow (m ∷ later) h r = let a = news_grow later h r in let b = moment_news m (later ++ h) r in omega (arith, a, b)
 
@@ -241,16 +234,16 @@ module _ (start : List Disk) (i write : ℕ) (q : Sending) (v : Transaction) (as
         }
 
 -- ---- two places of one history
-data Nested {A : Type 0} (x y : List A) : Type 0 where
+pub data Nested {A : Type 0} (x y : List A) : Type 0 where
   inside : (d : List A) → d ++ x ≡ y → Nested x y
   outside : (d : List A) → d ++ y ≡ x → Nested x y
 
-nested : {A : Type 0} (a b x y : List A) → a ++ x ≡ b ++ y → Nested x y
+pub nested : {A : Type 0} (a b x y : List A) → a ++ x ≡ b ++ y → Nested x y
 nested [] b x y e = outside b (sym e)
 nested (m ∷ a) [] x y e = inside (m ∷ a) e
 nested (m ∷ a) (n ∷ b) x y e = nested a b x y (let z : a ++ x ≡ b ++ y = cc in z)
 
-serials_back : (later h : List Moment) → SerialsCount (later ++ h) → SerialsCount h
+pub serials_back : (later h : List Moment) → SerialsCount (later ++ h) → SerialsCount h
 serials_back [] h c = c
 serials_back (m ∷ later) h c = serials_back later h (serials_behind m (later ++ h) c)
 

@@ -3,14 +3,15 @@ use Rattle.sbp_world.proofs.Words.Std.{arith, zero, ◌≡◌, ◌∙◌, refl, 
 use Rattle.sbp_world.proofs.Words.Wire.{Moment, Sending, SerialsCount, Terms, Transaction, asked, begun_in, said, terms, times_out}
 use Rattle.sbp_world.proofs.Words.Target.{Disk, Operation}
 use Rattle.sbp_world.proofs.Words.Initiator.{offset_at}
-use Rattle.sbp_world.proofs.Words.Laws.{Target, access_in, answer_in, id_for, packet_at, packet_in, target_at}
+use Rattle.sbp_world.proofs.Words.Laws.{Target, access_in, answer_in, answered_at, id_for, packet_at, packet_in, target_at}
 use Rattle.sbp_world.proofs.Words.World.{Office, at_rest, managed_for, office_of, started, started_by}
 use Rattle.sbp_world.specs.Lists.ManagedFor.{is_its_packet, operation_if}
 use Rattle.mgmt_agent.specs.Machine as manager
+use Rattle.mgmt_agent.specs.declared.operation.Phase.{Phase}
 use Rattle.mgmt_agent.specs.declared.operation.Phase.TheVariants as phases
 use Rattle.sbp_journal.specs.declared.note.Note.TheVariants as notes
-use Rattle.sbp_world.specs.Completing.EndsTaken.{Became, IsFirstAt, IsAnsweredWell, IsForPlace, IsHandled, IsSmooth, IsTakenWell, TakenWriteLaw, busy, dropped, handled, told}
-use Rattle.sbp_world.specs.Completing.OperationsReplies.{TakesOn, goes_on, is_over}
+use Rattle.sbp_world.specs.Completing.EndsTaken.{Became, IsFirstAt, IsAnsweredWell, IsForPlace, IsHandled, IsSmooth, IsTakenWell, TakenWriteLaw, WasDone, busy, dropped, handled, told}
+use Rattle.sbp_world.specs.Completing.OperationsReplies.{IsWhole, TakesOn, goes_on, is_over}
 use Rattle.sbp_world.proofs.Common.{none_is}
 use Rattle.sbp_world.proofs.Completing.EndsOffices.{Holds, answers, moment_holds, starts_office, stays}
 use Rattle.sbp_world.proofs.Completing.EndsRefused.{moment_news}
@@ -64,7 +65,7 @@ module _ (start : List Disk) (i write place : ℕ) (q : Sending) where
   for_same m past s r taken = refl
 
   -- ---- it is handled still
-  module _ (m : Moment) (past : List Moment) (counts : SerialsCount (m ∷ past)) (smooth : IsSmooth start i write G m past) where
+  module _ (m : Moment) (past : List Moment) (counts : SerialsCount (m ∷ past)) (smooth : IsSmooth start i write G m past) (new : 0 < (terms past).news write) where
     abbrev now : List Moment
     now = m ∷ past
 
@@ -92,10 +93,10 @@ module _ (start : List Disk) (i write place : ℕ) (q : Sending) where
       handles : (op : Operation) → (target_at start now).manager.operation ≡ Some op → op.source ≡ h.op.source → op.orb ≡ h.op.orb → B now
       handles op e source orb = handled (record { op = op; is = e; source = source ∙ (h.source ∙ sym (ids_same m past smooth)); orb = orb ∙ h.orb; behind = behind_now })
 
-      takes : (left : Option Operation) → (target_at start now).manager.operation ≡ left → (own : ℕ) → T.manages ≡ Some own → (h.op.phase ≡ phases.Status → 0 < (terms past).news own) → TakesOn h.op left → B now
-      takes left e own manages taken (goes_on op is source orb) = handles op (e ∙ is) source orb
-      takes left e own manages taken (is_over phase none) =
-          let l = taken phase in
+      takes : (left : Option Operation) → (target_at start now).manager.operation ≡ left → (serial own : ℕ) → m ≡ said (notes.Got serial) → answered_at (terms past) serial ≡ Some own → T.manages ≡ Some own → IsAnsweredWell start past serial own h.op → TakesOn h.op left → B now
+      takes left e serial own at answered manages w (goes_on op is source orb) = handles op (e ∙ is) source orb
+      takes left e serial own at answered manages w (is_over phase none) =
+          let l = w.taken phase in
           let grow = moment_news m past own in
           told (record {
             serial = own;
@@ -106,6 +107,19 @@ module _ (start : List Disk) (i write place : ℕ) (q : Sending) where
             orb = h.orb;
             behind = h.behind own manages;
             judged = omega (arith, l, grow);
+            done = record {
+              later = [];
+              before = past;
+              got = serial;
+              is = ap (λ (x : Moment). x ∷ past) (sym at);
+              closes = answered;
+              done = subst (λ (x : Phase). IsWhole x (answer_in (packet_at (terms past) serial))) phase w.whole;
+              manages = manages;
+              op = h.op;
+              operation = h.is;
+              source = h.source;
+              taken = new;
+            };
           })
 
       handled_on : Holds start past m → B now
@@ -113,13 +127,13 @@ module _ (start : List Disk) (i write place : ℕ) (q : Sending) where
       handled_on (answers serial own at answered manages e) =
           let w : IsAnsweredWell start past serial own h.op = (subst (λ x. IsSmooth start i write G x past) at smooth) own answered manages h.op h.is in
           let t = whole_replies_law T.manager T.table T.keys h.op (answer_in (packet_at (terms past) serial)) h.is w.whole in
-          takes _ (ap (λ (x : manager.Machine). x.operation) e) own manages w.taken t.operation
+          takes _ (ap (λ (x : manager.Machine). x.operation) e) serial own at answered manages w t.operation
 
     -- so is each
     goes : B past → B now
     goes (handled h) = handled_on h (moment_holds start past h.op h.is m i write G smooth)
     goes (busy b) = busy (record { later = m ∷ b.later; before = b.before; is = ap (λ (xs : List Moment). m ∷ xs) b.is; new = b.new; op = b.op; busy = b.busy })
-    goes (dropped d) = dropped (record { later = m ∷ d.later; before = d.before; cause = d.cause; is = ap (λ (xs : List Moment). m ∷ xs) d.is; new = d.new })
+    goes (dropped d) = dropped (record { later = m ∷ d.later; before = d.before; cause = d.cause; is = ap (λ (xs : List Moment). m ∷ xs) d.is; new = d.new; taken = d.taken })
     goes (told x) =
         let l = x.judged in
         let grow = moment_news m past x.serial in
@@ -132,7 +146,11 @@ module _ (start : List Disk) (i write place : ℕ) (q : Sending) where
           orb = x.orb;
           behind = x.behind;
           judged = omega (arith, l, grow);
+          done = done_on x.done;
         })
+      where
+        done_on : (d : WasDone start past i write x.serial G) → WasDone start now i write x.serial G
+        done_on d = record { later = m ∷ d.later; before = d.before; got = d.got; is = ap (λ (xs : List Moment). m ∷ xs) d.is; closes = d.closes; done = d.done; manages = d.manages; op = d.op; operation = d.operation; source = d.source; taken = d.taken }
 
   -- ---- it is taken
   begins_by : (operation : Option Operation) (id orb : ℕ) (o : Office) → operation ≡ None → ((started_by (manager.start_with operation o.manager id orb) o).manager.operation ≡ Some (record { source = id; orb = orb; phase = phases.Orb })) × ((started_by (manager.start_with operation o.manager id orb) o).manages ≡ o.manages)
@@ -189,7 +207,8 @@ module _ (start : List Disk) (i write place : ℕ) (q : Sending) where
         by : (b : Bool) → nat_eq write serial ≡ b → B (said (notes.Ignored serial cause) ∷ past)
         by true e =
             let same : write ≡ serial = grind (arith, nat_tests) in
-            subst (λ s. B (said (notes.Ignored s cause) ∷ past)) same (dropped (record { later = []; before = past; cause = cause; is = refl; new = new }))
+            let seen : 0 < (terms (said (notes.Ignored write cause) ∷ past)).news write = subst (λ s. 0 < (terms (said (notes.Ignored s cause) ∷ past)).news write) (sym same) taken in
+            subst (λ s. B (said (notes.Ignored s cause) ∷ past)) same (dropped (record { later = []; before = past; cause = cause; is = refl; new = new; taken = seen }))
         by false e = let other = (ignored_rests serial cause past).others write e in absurd (omega (arith, other, new, taken))
     first (said (notes.TimedOut serial)) past counts sent new taken f = let same = ap (λ (x : ℕ → ℕ). x write) (late_news (begun_in ((terms past).sent serial)) (terms past)) in absurd (omega (arith, same, new, taken))
     first (said note) past counts sent new taken f = absurd (omega (arith, new, taken))
@@ -203,4 +222,4 @@ taken_write_law start (m ∷ past) counts i write place q for_place well sent ta
     (λ new. first start i write place q for_place m past back sent new taken (well.0.first new))
     (λ l.
     let smooth = well.0.behind l in
-    goes start i write place q m past counts smooth (taken_write_law start past back i write place q for_place well.1 (sym (sent_same start i write place q m past smooth) ∙ sent) l))
+    goes start i write place q m past counts smooth l (taken_write_law start past back i write place q for_place well.1 (sym (sent_same start i write place q m past smooth) ∙ sent) l))

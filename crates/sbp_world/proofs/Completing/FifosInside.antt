@@ -10,7 +10,8 @@ use Rattle.sbp_laws.specs.Hosts.{Session, is_stuck}
 use Rattle.sbp_laws.specs.JudgementLaw.{is_out}
 use Rattle.sbp_session.specs.declared.seat.Seat.TheVariants as seats
 use Rattle.sbp_world.specs.Agents.Holders.{AreHeldAt}
-use Rattle.sbp_world.specs.Completing.Writes.{FifosLatestLaw}
+use Rattle.sbp_world.specs.Completing.Labels.{AlwaysWhere}
+use Rattle.sbp_world.specs.Completing.Writes.{AreFifosLatest, AreFifosOpen}
 use Rattle.sbp_world.specs.Lists.Live.{AreLive, HasGivenUp, IsLive}
 use Rattle.sbp_world.specs.Lists.OwnLogins.{IsTame}
 use Rattle.sbp_world.proofs.Words.Wire.{or_nobody}
@@ -69,7 +70,7 @@ module _ (start : List Disk) (past : List Moment) (w : WorldState) (kit : Kit st
         let next : h.holder.initiator + 1 ≡ suc i = omega (arith, here) in
         inside_of (subst (λ n. n < length w.initiators) here of.of.small) (sym of.of.node_is ∙ ap (λ n. id_for (terms past) 0 n) next)
 
-held_everywhere : EveryPlace (λ start past w. AreHeldAt start past w)
+pub held_everywhere : EveryPlace (λ start past w. AreHeldAt start past w)
 held_everywhere = by_places main_slots.Kit (λ start past w. AreHeldAt start past w) (λ units ready has start past lines w h kit. (site_at start past w kit.ground).held) (kit_everywhere short_law open_lists_law)
 
 kits : EveryPlace Kit
@@ -88,14 +89,14 @@ kits =
       };
     }
 
-pub fifos_latest_law : FifosLatestLaw
-fifos_latest_law latest = record {
-  after_lines = λ line run r has small size tame place login b there live writes level.
-      let x = latest.after_lines line run r has small size tame place login b there live writes level in
+pub fifos_latest_where : (While : List Moment → Type 0) → AlwaysWhere While AreFifosLatest → AlwaysWhere While AreFifosOpen
+fifos_latest_where While latest = record {
+  after_lines = λ line run r has small size so tame place login b there live writes level.
+      let x = latest.after_lines line run r has small size so tame place login b there live writes level in
       let k = kits.after_lines line run r has small size (closing.before open_lists_law line run r has small size (inl tame)) in
       record { some = x.some; goes = x.goes; inside = inside run.start.disks _ _ k tame place login there live level };
-  between = λ line run r has small size next most told m tame place login b there live writes level.
-      let x = latest.between line run r has small size next most told m tame place login b there live writes level in
+  between = λ line run r has small size next most told m so tame place login b there live writes level.
+      let x = latest.between line run r has small size next most told m so tame place login b there live writes level in
       let k = kits.between line run r has small size next most told m (closing.between open_lists_law line run r has small size next (more_deliveries most) (more_than_one most) told m (inl tame)) in
       record { some = x.some; goes = x.goes; inside = inside run.start.disks _ _ k tame place login there live level };
 }

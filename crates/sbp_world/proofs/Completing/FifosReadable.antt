@@ -1,5 +1,5 @@
 -- In every run in which no initiator injected packets, what an agent writes as a status is read as a status block (NCITS 325-1998, status block): it names the ORB of a slot, and none of management.
-use Rattle.sbp_world.proofs.Words.Std.{arith, ◌≡◌, ◌∙◌, refl, sym, ap, subst, inl, ◌<◌, ◌+◌, ◌*◌, ◌^◌, ◌&&◌, ◌||◌, ◌==◌, nat_tests, ℕ, zero, suc, Bool, true, false, List, [], length, Ok, slice_index_or, false≢true}
+use Rattle.sbp_world.proofs.Words.Std.{arith, ◌≡◌, ◌∙◌, refl, sym, ap, subst, inl, ◌<◌, ◌+◌, ◌*◌, ◌^◌, ◌||◌, ◌==◌, nat_tests, ℕ, zero, suc, Bool, true, false, List, [], length, Ok, slice_index_or, false≢true}
 use Rattle.sbp_world.proofs.Words.Wire.{Moment}
 use Rattle.sbp_world.proofs.Words.Target.{Desk, Disk, Knows, Machine, Phase, new_desk, plain_in, answer_in, writes_status}
 use Rattle.sbp_world.proofs.Words.Initiator.{is_managed_orb, names_place, offset_at, read_block, start, status_bytes, StatusBlock, StatusKind, status_in}
@@ -31,6 +31,7 @@ use Rattle.sbp_world.proofs.Lists.StatusSteps.{IsFair}
 use Rattle.sbp_world.proofs.Lists.Walks.{Walks, walked_after, walked_between}
 use Rattle.sbp_world.proofs.Pointers.Proved.{moments_law}
 use Rattle.sbp_laws.specs.Turns.{EachMoment}
+use Rattle.sbp_world.proofs.Completing.WritesFifos.{never}
 
 -- ---- agents that write a status block
 abbrev Nothing : List Moment → WorldState → Type 0
@@ -99,10 +100,6 @@ unmanaged slot small = by (0x1000_0000 + 0x40 * slot == 0x1200_0000) (0x1000_000
     by true b e f = absurd (let no : 0x1000_0000 + 0x40 * slot ≡ 0x1200_0000 = grind (arith, nat_tests, e) in let z : ⊥ = omega (arith, no, small) in z)
     by false true e f = absurd (let no : 0x1000_0000 + 0x40 * slot ≡ 0x1200_0020 = grind (arith, nat_tests, f) in let z : ⊥ = omega (arith, no, small) in z)
     by false false e f = refl
-
-never : (a b : Bool) → b ≡ false → a && b ≡ false
-never true b e = e
-never false b e = refl
 
 -- the block of an ORB in a slot is read
 readable : (m : Machine) (slot : ℕ) → slot < 32 → m.present ≡ start (windows.Orb slot) → IsBlock m → IsReadable m.outgoing

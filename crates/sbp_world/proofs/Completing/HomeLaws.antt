@@ -1,10 +1,10 @@
 -- The target has the login of an initiator while a write of ORB_POINTER of it waits, from turn to turn, where the initiator has given up meanwhile.
 use Rattle.sbp_world.proofs.Words.Std.{arith, ◌≡◌, ◌∙◌, inr, refl, sym, ap, subst, ◌<◌, ◌≤◌, ◌+◌, ◌%◌, ◌^◌, ℕ, suc, Bool, true, false, List, [], ◌∷◌, ◌++◌, map, length, Option, Some, same_Some, none-some}
 use Rattle.sbp_world.proofs.Words.Wire.{Access, Event, Moment, Sending, SerialsCount, asked, said, terms}
-use Rattle.sbp_world.proofs.Words.Target.{Disk, Managed, NodeState, Told}
+use Rattle.sbp_world.proofs.Words.Target.{Disk, NodeState, Told}
 use Rattle.sbp_world.proofs.Words.Initiator.{InitiatorState, is_stuck_seat, start_of}
 use Rattle.sbp_world.proofs.Words.Laws.{access_in_bytes, id_for, slot_at}
-use Rattle.sbp_world.proofs.Words.World.{AreSame, FewLogins, HasGivenUp, IsCalm, IsRun, KeepsIn, MayAll, OpenBefore, OpenBetween, Run, Scene, WorldState, after, after_all, beginning, begun, history_of, initiator_at, moments_behind, more_deliveries, orb_in_place, pointed_list, pointer_write, ready_logins}
+use Rattle.sbp_world.proofs.Words.World.{AreSame, FewLogins, HasGivenUp, IsCalm, IsRun, MayAll, OpenBefore, OpenBetween, Run, Scene, WorldState, after, after_all, beginning, begun, history_of, initiator_at, moments_behind, more_deliveries, pointed_list, pointer_write, ready_logins}
 use Rattle.bus_memory.specs.declared.window.Window.TheVariants as windows
 use Rattle.sbp_world.specs.Completing.PresentHomes.{AreHomeStill, HasHome, HomeStillFewLaw, WaitsFor}
 use Rattle.sbp_world.specs.Pointers.Pointers.{IsNamed, IsPointer, IsPointing}
@@ -29,13 +29,14 @@ use Rattle.sbp_world.proofs.Lists.UnderwayRuns.{delivering}
 use Rattle.sbp_world.proofs.Pointers.Based.{registers_law}
 use Rattle.sbp_world.proofs.Pointers.Proved.{pointers_law}
 use Rattle.sbp_world.proofs.Completing.HomeDecides.{call_keeps, call_stands}
-use Rattle.sbp_world.proofs.Completing.HomeMoments.{Busied, Inertly, all_busied, all_pointers, all_stay}
-use Rattle.sbp_world.proofs.Completing.HomePlaces.{InHand, KeepsAt, Near, busied, free, has_home, in_hand, not_ahead}
+use Rattle.sbp_world.proofs.Completing.HomeMoments.{Inertly, all_pointers}
+use Rattle.sbp_world.proofs.Completing.HomePlaces.{InHand, KeptOn, Near, hand_stays, has_home, in_hand, not_ahead}
 use Rattle.sbp_world.proofs.Completing.HomeTurns.{call_told, turn_go}
 use Rattle.sbp_world.proofs.Hosts.Remaining.{remains}
 use Rattle.sbp_world.proofs.Hosts.SentMoments.{sent_below}
 use Rattle.sbp_world.proofs.Lists.Courses.{EveryPlace, Goes, Keeps, at_between, at_lines, more_than_one}
 use Rattle.sbp_world.proofs.Lists.Judging.{Grown, counts_at, goes_next, grown}
+use Rattle.sbp_world.proofs.Lists.LiveDecides.{keeps_logins}
 use Rattle.sbp_world.proofs.Lists.LiveHandled.{gave_up}
 use Rattle.sbp_world.proofs.Lists.LiveLaws.{given_up}
 use Rattle.sbp_world.proofs.Lists.LiveOwn.{GaveUp, in_hand as has_one, two_ways}
@@ -55,7 +56,7 @@ pub record Loose (past : List Moment) (i n serial : ℕ) : Type 0 where
 
 pub record Found (start : List Disk) (past : List Moment) (w : WorldState) (i base : ℕ) : Type 0 where
   pub home : HasHome w (id_in w i) base
-  pub hand : InHand start past w i
+  pub hand : InHand keeps_logins start past w i
 
 abbrev pub Waited : List Disk → List Moment → WorldState → Type 0
 Waited start past w = FewLogins past → (i : ℕ) → i < length w.initiators → IsCalm past i → HasGivenUp past i → (n serial : ℕ) → (x : Loose past i n serial) → (own_of w i ≤ zero_of w) × (zero_of w ≡ own_of w i → Found start past w i x.pointer.base)
@@ -140,14 +141,8 @@ module _ (units ready : ℕ) (has : 0 < units) (start : List Disk) (past : List 
     of_node = k.of_node ∙ sym e;
   }
 
-  abbrev KeptOn : Type 0
-  KeptOn = (b : Busied start before i) → KeepsAt w before i b.place → (op : Managed) → v.target.manager.operation ≡ Some op → op.source ≡ id_in v i → op.orb ≡ start_of (windows.Management b.place) → KeepsIn op.phase (orb_in_place before i b.place)
-
-  carried : KeptOn → InHand start before w i → InHand start now v i
-  carried kept (free f) = free ((all_stay start i before now inert (q_now.live.more.given.laws.hands i l_now calm_now)).free f)
-  carried kept (busied b k) =
-      let y = all_busied start i before now inert (q_now.live.more.given.laws.hands i l_now calm_now) (counts_at v h_now.sound.stands) b in
-      busied y.now_busied (λ op is source orb. subst (KeepsIn op.phase) (sym y.orb_is) (kept b k op is source (orb ∙ ap (λ m. start_of (windows.Management m)) y.place_is)))
+  carried : KeptOn keeps_logins start before w v i → InHand keeps_logins start before w i → InHand keeps_logins start now v i
+  carried = hand_stays keeps_logins start before now w v i inert (q_now.live.more.given.laws.hands i l_now calm_now) (counts_at v h_now.sound.stands)
 
   abbrev Now : Type 0
   Now = (own_of v i ≤ zero_of v) × (zero_of v ≡ own_of v i → Found start now v i x.pointer.base)
@@ -192,8 +187,8 @@ module _ (units ready : ℕ) (has : 0 < units) (start : List Disk) (past : List 
             let f = k.1 was in
             let placed = (placed_turns units ready start past s later t lines more has g h h_now q.live q_now.live q.alive i l (calm_now, inr few_now) was bus (call_told units ready has start i call)).placed in
             record {
-              home = moved bus.id (call_stands units ready has start w h q i l calm was placed f.hand call) f.home;
-              hand = carried (λ b kept op is source orb. call_keeps units ready has start w h q i l calm was placed f.hand b kept call op is (source ∙ bus.id) orb) f.hand;
+              home = moved bus.id (call_stands keeps_logins units ready has start w h q i l calm was placed f.hand (λ function e. e) call) f.home;
+              hand = carried (λ b kept op is source orb. call_keeps keeps_logins units ready has start w h q i l calm was placed f.hand b kept call op is (source ∙ bus.id) orb) f.hand;
             },
       )
 
@@ -254,7 +249,7 @@ module _ (units ready : ℕ) (start : List Disk) {past : List Moment} {lines : �
 abbrev helds : EveryPlace Held
 helds = held_everywhere (laws short_law) (buffers_held short_law) (stored short_law)
 
-near : EveryPlace Near
+pub near : EveryPlace Near
 near = record {
   after_lines = λ line run r has small size so_far.
       let inside : (i : ℕ) → i < length (after (beginning run) run.entries).world.initiators → i < run.initiators = λ i l. subst (λ c. i < c) (count_after run run.entries) l in

@@ -2,7 +2,7 @@
 -- ORB_POINTER its host names.
 use Rattle.sbp_world.proofs.Words.Std.{arith, ◌≡◌, ◌∙◌, refl, sym, ap, subst, ◌<◌, ◌≤◌, ◌%◌, ◌&&◌, not, nat_eq, nat_le, nat_tests, ℕ, zero, suc, Bool, true, false, cond, List, [], ◌∷◌, ◌++◌, Option, Some, None, none-some}
 use Rattle.sbp_world.proofs.Words.Wire.{Event, HostOperation, Moment, OpWord, Part, SerialsCount, Terms, asked, part_of, said, request, response, terms}
-use Rattle.sbp_world.proofs.Words.Target.{Disk, Operation, function_of}
+use Rattle.sbp_world.proofs.Words.Target.{Disk, Function, Operation, function_of}
 use Rattle.sbp_world.proofs.Words.Initiator.{Answer, Done, Expired, ManagementOrb, NoLabel, Payload, Refused, management_orb, start_of}
 use Rattle.sbp_world.proofs.Words.Laws.{Host, Underway, acted, answer_in, answered_at, goes_on, list_begins, op_ended, packet_at, place_bytes, pointer_answered, sender_in, sent_in, event_of, host_at, is_management, is_own, operation_of, management_orb_of, known_host, place_held, place_written, present_list, receiver_in, target_at}
 use Rattle.sbp_world.proofs.Words.World.{IsAsking, IsBusy, IsFree, orb_in_place}
@@ -18,14 +18,14 @@ use Rattle.sbp_world.proofs.Hosts.Carries.{IsNoAct}
 use Rattle.sbp_world.proofs.Hosts.Remaining.{remains}
 use Rattle.sbp_world.proofs.Hosts.SentMoments.{serials_from}
 use Rattle.sbp_world.proofs.Lists.ContentManages.{so_before}
-use Rattle.sbp_world.proofs.Lists.LiveDecides.{keeps_logins}
 use Rattle.sbp_world.proofs.Lists.ManageGot.{got_busy, got_free}
 use Rattle.sbp_world.proofs.Lists.ManageHand.{other_asks_none}
 use Rattle.sbp_world.proofs.Lists.ManageMoments.{Hands, IsActing, MayHand, line_calm, quiet_calm}
 use Rattle.sbp_world.proofs.Lists.ManageSent.{sent_busy, sent_free}
 use Rattle.sbp_world.proofs.Lists.ManageSights.{again_calm, sight_calm}
 use Rattle.sbp_world.proofs.Lists.ManageStays.{Calms, calm_busy, calm_free}
-use Rattle.sbp_world.proofs.Common.{itself, turned, untrue}
+use Rattle.sbp_world.proofs.Completing.LatestHosts.{other_same}
+use Rattle.sbp_world.proofs.Common.{and_first, cond_off, equal_numbers, itself, turned, untrue}
 
 -- ---- such a moment
 abbrev pub IsInert : ℕ → Moment → List Moment → Type 0
@@ -86,14 +86,10 @@ not_own : (i j : ℕ) (operation : Option HostOperation) (other : Bool) → nat_
 not_own i j None other e = refl
 not_own i j (Some operation) other e = ap (λ b. (b && is_management operation) && other) e
 
-keeps_if : {A : Type 0} (b : Bool) (x y : A) → b ≡ false → cond b x y ≡ y
-keeps_if true x y e = untrue (sym e)
-keeps_if false x y e = refl
-
 not_written : (event : Option Event) (past : List Moment) (i place : ℕ) (held : Option ManagementOrb) → IsNoAct i event → place_written event past i place held ≡ held
 not_written None past i place held n = refl
 not_written (Some (events.Act j action)) past i place held n =
-    keeps_if (is_own i j (operation_of action) && nat_eq ((host_at past i).writes % 2) place) (Some (management_orb_of action past i (host_at past i) place)) held (not_own i j (operation_of action) (nat_eq ((host_at past i).writes % 2) place) n)
+    cond_off (is_own i j (operation_of action) && nat_eq ((host_at past i).writes % 2) place) (Some (management_orb_of action past i (host_at past i) place)) held (not_own i j (operation_of action) (nat_eq ((host_at past i).writes % 2) place) n)
 not_written (Some event) past i place held n = refl
 
 moment_place : (i : ℕ) (m : Moment) (past : List Moment) → IsInert i m past → (place : ℕ) → place_held (m ∷ past) i place ≡ place_held past i place
@@ -106,15 +102,15 @@ moment_place i (said (notes.Sent serial generation (suc j) to bytes)) past q pla
     by true e = not_written (event_of past) past i place (place_held past i place) (q (let z : suc j ≡ suc i = grind (arith, nat_tests, e) in z))
 moment_place i (said note) past q place = refl
 
--- ---- an operation in hand that leaves the logins
+-- ---- an operation in hand, with a function that is quiet
 -- no read of its ORB was sent before its write
-pub record Busied (start : List Disk) (past : List Moment) (i : ℕ) : Type 0 where
+pub record Busied (quiet : Option Function → Bool) (start : List Disk) (past : List Moment) (i : ℕ) : Type 0 where
   pub place : ℕ
   pub small : place < 2
   pub write : ℕ
   pub busy : IsBusy start past i place write
   pub sent : write ≤ (terms past).count
-  pub keeps : keeps_logins (function_of (orb_in_place past i place).function) ≡ true
+  pub keeps : quiet (function_of (orb_in_place past i place).function) ≡ true
   pub since : (later before : List Moment) → later ++ before ≡ past → write ≤ (terms before).count → place_held past i place ≡ place_held before i place
   pub behind : (op : Operation) (read : ℕ) → (target_at start past).manager.operation ≡ Some op → op.phase ≡ phases.Orb → op.orb ≡ start_of (windows.Management place) → (target_at start past).manages ≡ Some read → receiver_in ((terms past).sent read) ≡ Some (suc i) → write ≤ read
 
@@ -122,7 +118,7 @@ abbrev rest_of : List Moment → List Moment
 rest_of [] = []
 rest_of (m ∷ past) = past
 
-module _ (start : List Disk) (i : ℕ) (m : Moment) (past : List Moment) (inert : IsInert i m past) (hand : MayHand start i m past) (counts : SerialsCount (m ∷ past)) (b : Busied start past i) where
+module _ (quiet : Option Function → Bool) (start : List Disk) (i : ℕ) (m : Moment) (past : List Moment) (inert : IsInert i m past) (hand : MayHand start i m past) (counts : SerialsCount (m ∷ past)) (b : Busied quiet start past i) where
   same_place : place_held (m ∷ past) i b.place ≡ place_held past i b.place
   same_place = moment_place i m past inert b.place
 
@@ -143,31 +139,31 @@ module _ (start : List Disk) (i : ℕ) (m : Moment) (past : List Moment) (inert 
           let more : (terms past).count < read = grind (arith, nat_tests, e) in
           omega (arith, l, more)
 
-  moment_busied : Busied start (m ∷ past) i
+  moment_busied : Busied quiet start (m ∷ past) i
   moment_busied = record {
     place = b.place;
     small = b.small;
     write = b.write;
     busy = (moment_stays start i m past inert hand).busy b.place b.write b.busy;
     sent = (let l = b.sent in let more = (remains (m ∷ []) past counts).count in omega (arith, l, more));
-    keeps = subst (λ held. keeps_logins (function_of (management_orb (place_bytes held)).function) ≡ true) (sym same_place) b.keeps;
+    keeps = subst (λ held. quiet (function_of (management_orb (place_bytes held)).function) ≡ true) (sym same_place) b.keeps;
     since = since_now;
     behind = behind_now;
   }
 
 -- the place stays
-pub record SameBusied (start : List Disk) (before now : List Moment) (i : ℕ) (b : Busied start before i) : Type 0 where
-  pub now_busied : Busied start now i
+pub record SameBusied (quiet : Option Function → Bool) (start : List Disk) (before now : List Moment) (i : ℕ) (b : Busied quiet start before i) : Type 0 where
+  pub now_busied : Busied quiet start now i
   pub place_is : now_busied.place ≡ b.place
   pub orb_is : orb_in_place now i now_busied.place ≡ orb_in_place before i b.place
 
-pub all_busied : (start : List Disk) (i : ℕ) (before now : List Moment) → Inertly i before now → Hands start i now → SerialsCount now → (b : Busied start before i) → SameBusied start before now i b
+pub all_busied : (quiet : Option Function → Bool) (start : List Disk) (i : ℕ) (before now : List Moment) → Inertly i before now → Hands start i now → SerialsCount now → (b : Busied quiet start before i) → SameBusied quiet start before now i b
 unfolding moment_busied
-all_busied start i before now here f c b = record { now_busied = b; place_is = refl; orb_is = refl }
-all_busied start i before now (goes m past r q) f c b =
-    let x = all_busied start i before past r f.1 (serials_from (m ∷ []) past c) b in
+all_busied quiet start i before now here f c b = record { now_busied = b; place_is = refl; orb_is = refl }
+all_busied quiet start i before now (goes m past r q) f c b =
+    let x = all_busied quiet start i before past r f.1 (serials_from (m ∷ []) past c) b in
     record {
-      now_busied = moment_busied start i m past q f.0 c x.now_busied;
+      now_busied = moment_busied quiet start i m past q f.0 c x.now_busied;
       place_is = x.place_is;
       orb_is = ap (λ held. management_orb (place_bytes held)) (moment_place i m past q x.now_busied.place) ∙ x.orb_is;
     }
@@ -260,3 +256,34 @@ module _ (named : ℕ) where
   pub all_pointers : (i : ℕ) (before now : List Moment) → Inertly i before now → Was (host_at now i) (host_at before i)
   all_pointers i before now here e = e
   all_pointers i before now (goes m past r q) e = all_pointers i before past r (moment_pointer i m past q e)
+
+-- ---- how many logins the host has asked for
+goes_logins : (operation : Option Underway) (serial : ℕ) (host : Host) → (goes_on operation serial host).logins ≡ host.logins
+goes_logins None serial host = refl
+goes_logins (Some underway) serial host = refl
+
+logins_if : (b : Bool) (x y host : Host) → (b ≡ true → x.logins ≡ host.logins) → y.logins ≡ host.logins → (cond b x y).logins ≡ host.logins
+logins_if true x y host f e = f refl
+logins_if false x y host f e = e
+
+logins_sent : (event : Option Event) (i : ℕ) (list : Option ℕ) (serial : ℕ) (host : Host) → IsNoAct i event → (sent_in event i list serial host).logins ≡ host.logins
+logins_sent None i list serial host n = goes_logins host.operation serial host
+logins_sent (Some (events.Act j action)) i list serial host n = logins_if (nat_eq j i) (acted action (operation_of action) list serial host) (goes_on host.operation serial host) host (λ e. untrue (sym (turned i j n) ∙ e)) (goes_logins host.operation serial host)
+logins_sent (Some event) i list serial host n = goes_logins host.operation serial host
+
+part_logins : (part : Part) (event : Option Event) (i : ℕ) (list : Option ℕ) (serial : ℕ) (host : Host) → IsNoAct i event → (sent_as part event i list serial host).logins ≡ host.logins
+part_logins (request label kind) event i list serial host n = logins_sent event i list serial host n
+part_logins (response label kind) event i list serial host n = refl
+part_logins no_packet event i list serial host n = refl
+
+moment_logins : (i : ℕ) (m : Moment) (past : List Moment) → IsInert i m past → (host_at (m ∷ past) i).logins ≡ (host_at past i).logins
+moment_logins i (asked line event) past q = refl
+moment_logins i (said (notes.Begin initiators ready)) past q = absurd q
+moment_logins i (said (notes.Sent serial generation from to bytes)) past q =
+    logins_if (nat_eq from (suc i) && not ((known_host past i).wire.injected serial)) (sent_as (part_of bytes) (event_of past) i (present_list past i) serial (host_at past i)) (host_at past i) (host_at past i)
+    (λ e. part_logins (part_of bytes) (event_of past) i (present_list past i) serial (host_at past i) (q (equal_numbers from (suc i) (and_first (nat_eq from (suc i)) (not ((known_host past i).wire.injected serial)) e)))) refl
+moment_logins i (said note) past q = (other_same note past (known_host past i).wire i (host_at past i) refl).logins
+
+pub all_logins : (i : ℕ) (before now : List Moment) → Inertly i before now → (host_at now i).logins ≡ (host_at before i).logins
+all_logins i before now here = refl
+all_logins i before now (goes m past r q) = moment_logins i m past q ∙ all_logins i before past r

@@ -1,7 +1,7 @@
 -- What an initiator answers where it gets a request: the response has rcode 0, where what it asks for is answered complete.
-use Rattle.sbp_world.proofs.Words.Std.{arith, ◌≡◌, ◌∙◌, refl, sym, ap, subst, ℕ, suc, ◌==◌, Bool, true, false, cond, List, Some, nat_tests}
+use Rattle.sbp_world.proofs.Words.Std.{◌≡◌, ◌∙◌, refl, sym, ap, subst, ℕ, suc, ◌==◌, true, false, List, Some}
 use Rattle.sbp_world.proofs.Words.Wire.{Access, Moment, Packet, Sending, lock, lock_response, rcode_of, read_block, read_block_response, read_quadlet, read_quadlet_response, reading, terms, write_block, write_quadlet, write_response}
-use Rattle.sbp_world.proofs.Words.Initiator.{Done, Payload, Refused}
+use Rattle.sbp_world.proofs.Words.Initiator.{Payload}
 use Rattle.sbp_world.proofs.Words.Laws.{access_at, access_in, answer_in, answer_of, host_reply, packet_in, receiver_in, spelled_by}
 use Rattle.async_packet.specs.Spells as spelled_packets
 use Rattle.bus_transactions.proofs.FitJudged.{spelled}
@@ -12,18 +12,10 @@ use Rattle.sbp_world.proofs.Completing.ManagedReplies.{AnswersZero}
 use Rattle.sbp_world.proofs.Hosts.Carrying.{Stood, reply_packet}
 use Rattle.sbp_world.proofs.Hosts.Deliveries.{GotsIn, find_got}
 use Rattle.sbp_world.proofs.Hosts.GotServed.{Goes, IsAsked, IsGot}
-use Rattle.sbp_world.proofs.Hosts.Owing.{IsAsking, IsTelling, asking, telling}
+use Rattle.sbp_world.proofs.Hosts.Owing.{IsAsking, IsTelling, asking, telling, done_or, zero_by}
 use Rattle.sbp_world.proofs.Hosts.Replied.{IsReplied}
 
 -- ---- one that tells bytes has rcode 0
-done_or : (b : Bool) (rcode : ℕ) (bytes : List ℕ) → cond b Done (Refused rcode) ≡ Payload bytes → ⊥
-done_or true rcode bytes e = cc
-done_or false rcode bytes e = cc
-
-zero_by : (b : Bool) (rcode : ℕ) (given bytes : List ℕ) → (rcode == 0) ≡ b → cond b (Payload given) (Refused rcode) ≡ Payload bytes → rcode ≡ 0
-zero_by true rcode given bytes e f = grind (arith, nat_tests)
-zero_by false rcode given bytes e f = cc
-
 complete_by : (bytes : List ℕ) (p : Packet) (told : List ℕ) → spelled_packets.Spells bytes p → answer_of p ≡ Payload told → rcode_of bytes ≡ 0
 complete_by bytes (read_quadlet_response header rcode value) told s e = sym s.1 ∙ zero_by (rcode == 0) rcode _ told refl e
 complete_by bytes (read_block_response header rcode payload) told s e = sym s.1 ∙ zero_by (rcode == 0) rcode payload told refl e

@@ -3,7 +3,7 @@
 use Rattle.sbp_world.proofs.Words.Std.{arith, ◌≡◌, ◌∙◌, refl, sym, ap, subst, inl, ◌<◌, ◌≤◌, ◌==◌, ℕ, suc, nat_le, Bool, true, false, cond, List, length, Option, Some, None, same_Some}
 use Rattle.sbp_world.proofs.Words.Wire.{Access, Body, Finding, FitsRequest, Layer, Moment, Node, Packet, RowFacts, Sent, Terms, bare, bare_after, bare_finding, block_read, block_write, disowning_step, header_in, is_last, judging_step, last_for, layer_facts, largest, of_response, quadlet_read, read_block_response, read_quadlet_response, write_response, lock_response, read_quadlet, read_block, write_quadlet, write_block, lock, reply_kind, terms, transaction, unlabelled, with_label}
 use Rattle.sbp_world.proofs.Words.Target.{Disk, ManagerStep, Operation, Purpose, Table, answer_in, manager_body}
-use Rattle.sbp_world.proofs.Words.Initiator.{Answer, Ask, Done, FailCause, Payload, Refused, start_of, write_failure}
+use Rattle.sbp_world.proofs.Words.Initiator.{Answer, Ask, FailCause, Payload, start_of, write_failure}
 use Rattle.sbp_world.proofs.Words.Laws.{id_for}
 use Rattle.sbp_world.proofs.Words.World.{GoodIn, IsItsFifo, IsTame, Stands, WorldState, more_deliveries, of_login, of_place, write_access}
 use Rattle.bus_memory.specs.declared.window.Window.TheVariants as windows
@@ -42,6 +42,8 @@ use Rattle.sbp_world.proofs.Lists.Courses.{EveryPlace, more_than_one}
 use Rattle.sbp_world.proofs.Lists.ListsProved.{closing}
 use Rattle.sbp_world.proofs.Wire.Bus.{holds}
 use Rattle.sbp_world.proofs.Wire.Holding.{KnownTo}
+use Rattle.sbp_world.proofs.Lists.StatusSteps.{none_wrote}
+use Rattle.sbp_world.proofs.Hosts.Owing.{done_or}
 
 -- what is known of the response, but of one to the status block
 abbrev IsWholeBut : Phase → Answer → Type 0
@@ -94,9 +96,6 @@ may_body layer peer asks.Nothing out body e fits f = absurd (let no : None ≡ S
 same_offset : (a b c d : ℕ) → asks.Write a b ≡ asks.Write c d → c ≡ a
 same_offset a b c d e = cc
 
-no_write : (offset size : ℕ) → asks.Nothing ≡ asks.Write offset size → ⊥
-no_write offset size e = cc
-
 module _ (m : management.Machine) (table : Table) (keys : List (List ℕ)) (answer : Answer) (op : Operation) (is : m.operation ≡ Some op) where
   ask_in : (phase : Phase) → op.phase ≡ phase → (reply_step m table keys answer).0.ask ≡ (management.reply_in phase m op table keys answer).0.ask
   unfolding reply_step
@@ -104,25 +103,20 @@ module _ (m : management.Machine) (table : Table) (keys : List (List ℕ)) (answ
 
   written : (failure : Option FailCause) (fifo offset size : ℕ) → (management.response_written failure m op fifo).0.ask ≡ asks.Write offset size → offset ≡ fifo
   written None fifo offset size e = same_offset fifo 8 offset size e
-  written (Some cause) fifo offset size e = absurd (no_write offset size e)
+  written (Some cause) fifo offset size e = absurd (none_wrote offset size e)
 
   response_ask : (fifo : ℕ) → op.phase ≡ phases.Response fifo → (offset size : ℕ) → (reply_step m table keys answer).0.ask ≡ asks.Write offset size → offset ≡ fifo
   response_ask fifo e offset size f = written (write_failure answer) fifo offset size (sym (ask_in (phases.Response fifo) e) ∙ f)
 
   over : (failure : Option FailCause) (offset size : ℕ) → (management.status_written failure m).0.ask ≡ asks.Write offset size → ⊥
-  over None offset size e = no_write offset size e
-  over (Some cause) offset size e = no_write offset size e
+  over None offset size e = none_wrote offset size e
+  over (Some cause) offset size e = none_wrote offset size e
 
   status_ask : op.phase ≡ phases.Status → (offset size : ℕ) → (reply_step m table keys answer).0.ask ≡ asks.Write offset size → ⊥
   status_ask e offset size f = over (write_failure answer) offset size (sym (ask_in phases.Status e) ∙ f)
 
--- a response that brings bytes answers no write
-done_no_bytes : (b : Bool) (rcode : ℕ) (bytes : List ℕ) → cond b Done (Refused rcode) ≡ Payload bytes → ⊥
-done_no_bytes true rcode bytes e = cc
-done_no_bytes false rcode bytes e = cc
-
 read_answer : (p : Packet) (bytes : List ℕ) → answer_in p ≡ Payload bytes → reply_kind p ≡ Some kinds.Write → ⊥
-read_answer (write_response header rcode) bytes e k = done_no_bytes (rcode == 0) rcode bytes e
+read_answer (write_response header rcode) bytes e k = done_or (rcode == 0) rcode bytes e
 read_answer (read_quadlet_response header rcode value) bytes e k = cc
 read_answer (read_block_response header rcode payload) bytes e k = cc
 read_answer (lock_response header rcode extended payload) bytes e k = cc

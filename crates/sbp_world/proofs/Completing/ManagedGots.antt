@@ -1,8 +1,8 @@
 -- Where an initiator got a request, the history goes on with the response that the run terms say.
-use Rattle.sbp_world.proofs.Words.Std.{◌≡◌, refl, sym, ◌∙◌, ap, subst, ℕ, suc, ◌<◌, Bool, false, List, [], ◌∷◌, ◌++◌, map, Option, Some, Result, Ok, Err, append_assoc, same_Some}
-use Rattle.sbp_world.proofs.Words.Wire.{Packet, PacketFault, reading, as_sending, Access, Moment, asked, said, Sending, terms, Event, Note}
+use Rattle.sbp_world.proofs.Words.Std.{◌≡◌, refl, sym, ◌∙◌, ap, subst, ℕ, suc, ◌<◌, Bool, false, List, [], ◌∷◌, ◌++◌, map, Option, Some, append_assoc, same_Some}
+use Rattle.sbp_world.proofs.Words.Wire.{Packet, reading, as_sending, Access, Moment, asked, said, Sending, terms, Event, Note}
 use Rattle.sbp_world.proofs.Words.Target.{Told}
-use Rattle.sbp_world.proofs.Words.Laws.{host_reply, packet_in, receiver_in, spelled_by}
+use Rattle.sbp_world.proofs.Words.Laws.{host_reply, packet_in, receiver_in}
 use Rattle.sbp_world.proofs.Words.World.{delivered, history_of, Run, after, beginning, MayAll, Scene, begun, initiator_at, GetsRequest, IsDelivering, IsDelivered, IsSaid, front_of, IsRun}
 use Rattle.sbp_journal.specs.declared.event.Event.TheVariants as events
 use Rattle.sbp_world.proofs.Words.Initiator.{window_at}
@@ -12,13 +12,9 @@ use Rattle.sbp_world.proofs.Hosts.AnsweringLines.{run_answers}
 use Rattle.sbp_world.proofs.Hosts.Between.{between, stands_there, there}
 use Rattle.sbp_world.proofs.Hosts.Deliveries.{GotsAre, GotsIn, Here, all_gots, map_in, run_gots, said_gots}
 use Rattle.sbp_world.proofs.Hosts.GotRequests.{request_got}
-use Rattle.sbp_world.proofs.Hosts.GotServed.{IsAsked}
+use Rattle.sbp_world.proofs.Hosts.GotServed.{IsAsked, spelled_ok}
 use Rattle.sbp_world.proofs.Hosts.Knows.{was_sent}
-use Rattle.sbp_world.proofs.Common.{none_is, said_joined as said_append}
-
-spelled_ok : (r : Result Packet PacketFault) (p : Packet) → spelled_by r ≡ Some p → r ≡ Ok p
-spelled_ok (Ok q) p e = let g : q ≡ p = cc in ap (λ x. Ok x) g
-spelled_ok (Err fault) p e = none_is p e
+use Rattle.sbp_world.proofs.Common.{said_joined as said_append}
 
 -- a read of it that is complete is of a window whose bytes are said
 abbrev pub IsSaidFor : List Moment → ℕ → Access → Type 0

@@ -1,8 +1,8 @@
 -- At each place of a run in which nobody injected packets, the response to the request that the management operation waits for is whole, where the write that it waits for is taken.
-use Rattle.sbp_world.proofs.Words.Std.{arith, ◌≡◌, ◌∙◌, refl, sym, ap, subst, ◌<◌, ◌+◌, ◌++◌, inl, ℕ, suc, not, Bool, true, false, cond, List, [], ◌∷◌, length, Option, Some, None, same_Some, true≢false}
+use Rattle.sbp_world.proofs.Words.Std.{arith, ◌≡◌, ◌∙◌, refl, sym, ap, subst, ◌<◌, ◌+◌, ◌++◌, inl, ℕ, suc, not, Bool, true, false, cond, List, [], ◌∷◌, length, Some, same_Some, true≢false}
 use Rattle.sbp_world.proofs.Words.Wire.{Access, Finding, Kind, Layer, Moment, Node, Packet, Sending, Sent, SerialsCount, Stored, Terms, as_sending, between, found_kept, header_in, judging_step, part_of, response, said, terms, transaction, writing}
 use Rattle.sbp_world.proofs.Words.Target.{Disk, Operation, Purpose, answer_in, high_eui_at, low_eui_at, source_in}
-use Rattle.sbp_world.proofs.Words.Initiator.{Done, is_fifo, new_memory, start_of, window_at}
+use Rattle.sbp_world.proofs.Words.Initiator.{Done, new_memory, start_of, window_at}
 use Rattle.sbp_world.proofs.Words.Laws.{access_at, access_in, host_reply, id_for, packet_in, place_held, receiver_in, EachMoment, sender_in, target_at}
 use Rattle.sbp_world.proofs.Words.World.{AccessOf, AreShort, BasedAt, IsCalm, IsInAPlace, IsSaid, IsTame, NoneInjected, Stands, WasAsked, WorldState, read_access}
 use Rattle.bus_memory.proofs.Found.{window_here}
@@ -48,7 +48,7 @@ use Rattle.sbp_world.proofs.Lists.Heard.{Owned, Spells, spells, stored_by}
 use Rattle.sbp_world.proofs.Lists.KeptTurns.{id_is, operation_is}
 use Rattle.sbp_world.proofs.Lists.LiveSteps.{id_in}
 use Rattle.sbp_world.proofs.Lists.ManagedGots as managed_gots
-use Rattle.sbp_world.proofs.Lists.ManageTerms.{none_is, same_some}
+use Rattle.sbp_world.proofs.Lists.ManageTerms.{same_some}
 use Rattle.sbp_world.proofs.Lists.OfficeWrites.{goes_of, op_placed}
 use Rattle.sbp_world.proofs.Lists.OrbsHeard.{asked_by_it, from_is, manages_is, waiting}
 use Rattle.sbp_world.proofs.Lists.OrbsRead.{access_there, sender_there}
@@ -56,24 +56,11 @@ use Rattle.sbp_world.proofs.Lists.OwnOps.{StoodThere, brings_held}
 use Rattle.sbp_world.proofs.Lists.PlaceReplies.{place_length}
 use Rattle.sbp_world.proofs.Lists.StatusLogins.{each_there}
 use Rattle.sbp_world.proofs.Wire.Bus.{holds}
+use Rattle.sbp_world.proofs.Lists.ManagedGots.{rom_high, rom_low}
+use Rattle.sbp_world.proofs.Completing.AnswersOperation.{high_no_fifo, low_no_fifo}
+use Rattle.sbp_world.proofs.Completing.AnswersGots.{IsPacket, packet_from}
 
 -- ---- reads
-rom_high : window_at high_eui_at ≡ Some windows.Rom
-unfolding window_at
-rom_high = refl
-
-rom_low : window_at low_eui_at ≡ Some windows.Rom
-unfolding window_at
-rom_low = refl
-
-high_no_fifo : is_fifo high_eui_at ≡ false
-unfolding is_fifo
-high_no_fifo = refl
-
-low_no_fifo : is_fifo low_eui_at ≡ false
-unfolding is_fifo
-low_no_fifo = refl
-
 abbrev eui_access : ℕ → Access
 eui_access at = record { is_lock = false; is_write = false; is_block = false; offset = at; count = 4; payload = [] }
 
@@ -115,14 +102,6 @@ pub record Kit (start : List Disk) (past : List Moment) (w : WorldState) : Type 
   pub stood : (i : ℕ) → i < length w.initiators → Stood past i
   pub none : (i : ℕ) → i < length w.initiators → NoneInjected past i
   pub gots : GotsIn (IsGot past) past
-
-record IsPacket (so : Option Sending) : Type 0 where
-  packet : Sending
-  is : so ≡ Some packet
-
-packet_from : (so : Option Sending) (from : ℕ) → sender_in so ≡ Some from → IsPacket so
-packet_from None from e = none_is from e
-packet_from (Some packet) from e = record { packet = packet; is = refl }
 
 -- what is ignored was sent before
 pub ignored_sent : (all : List Moment) → KnownMoments all → SerialsCount all → (later earlier : List Moment) (ask : ℕ) (cause : Cause) → later ++ said (notes.Ignored ask cause) ∷ earlier ≡ all → (a : Sending) → (terms all).sent ask ≡ Some a → (terms earlier).sent ask ≡ Some a

@@ -9,7 +9,6 @@ use Rattle.initiator_base.specs.declared.fifos.Fifo.TheVariants as fifos
 use Rattle.label_table.specs.Layer.{facts_in}
 use Rattle.sbp_initiator.specs.Histories.Judging.{is_closed, is_read}
 use Rattle.sbp_journal.specs.Rows.{RequestFacts}
-use Rattle.sbp_journal.specs.Transactions.{is_to, is_to_by}
 use Rattle.sbp_journal.specs.declared.cause.Cause.TheVariants as causes
 use Rattle.sbp_journal.specs.declared.cause.Judged.TheVariants as judgements
 use Rattle.sbp_journal.specs.declared.event.Event.TheVariants as events
@@ -24,7 +23,7 @@ use Rattle.sbp_world.proofs.Hosts.Carries.{Carries, Does, Nothing, Tells}
 use Rattle.sbp_world.proofs.Hosts.Hosted.{Cored, cored_carried, first_cored}
 use Rattle.sbp_world.proofs.Hosts.Runs.{count_after, count_between}
 use Rattle.sbp_world.proofs.Hosts.Shown.{IsElsewhere, IsHeard, IsShown}
-use Rattle.sbp_world.proofs.Hosts.SlotIgnored.{not_there, some_bytes}
+use Rattle.sbp_world.proofs.Hosts.SlotIgnored.{not_there, some_bytes, grammar_row, current_row, goes_to}
 use Rattle.sbp_world.proofs.Wire.Effects.{AreEffectSides, IsEffectSide}
 use Rattle.sbp_world.proofs.Wire.OwnActs.{AreStepSides, IsStepSide, acts}
 use Rattle.sbp_world.proofs.Wire.OwnTells as own
@@ -73,18 +72,6 @@ access_shut access source s cause of_it hard read e = by (refused_row (f.to_init
     by (of_closed g) = closed_is found (second (not access.is_lock && access.is_write) (is_closed found) g)
     by (of_read g) = let n : not f.is_read ≡ true = second f.is_status (not f.is_read) g in untrue (sym (ap not read) ∙ n)
     by (of_awaited g) = untrue (sym (ap is_hard g) ∙ hard)
-
-grammar_row : (c n r a e : Bool) → row_of (record { is_current = c; is_for_node = n; is_response = r; is_awaited = a; is_repeated = e }) ≡ by_grammar → (c ≡ true) × (n ≡ false)
-grammar_row false n r a e g = cc
-grammar_row true false r a e g = (refl, refl)
-grammar_row true true true false e g = cc
-grammar_row true true true true e g = cc
-grammar_row true true false a true g = cc
-grammar_row true true false a false g = cc
-
-current_row : (c n r a e : Bool) → row_of (record { is_current = c; is_for_node = n; is_response = r; is_awaited = a; is_repeated = e }) ≡ by_request → c ≡ true
-current_row false n r a e g = cc
-current_row true n r a e g = refl
 
 module _ (generation : ℕ) (bytes : List ℕ) (s : InitiatorState) (p : Packet) (read : reading bytes ≡ Ok p) (access : Access) (asks : access_of p ≡ Some access) (source : generation ≡ s.layer.generation → (header_in p).source ≡ s.target) (goes : generation ≡ s.layer.generation → (header_in p).destination ≡ s.layer.node) where
   of_row : (row : Row) → row_of (facts_of s.layer generation bytes) ≡ row → (cause : Cause) → is_hard cause ≡ true → is_read (status_in access.payload) ≡ true → note_by row (reading bytes) s ≡ judgements.Ignored cause → fifo_for access s ≡ Some fifos.Closed
@@ -145,10 +132,6 @@ steps_on [] past i e h = h
 steps_on (side ∷ told) past i e h = steps_on told (by_side side past) i e.1 (one_step side past i e.0 h)
 
 -- ---- a packet that is heard
-goes_to : (bytes : List ℕ) (p : Packet) (id : ℕ) → reading bytes ≡ Ok p → is_to bytes id ≡ true → (header_in p).destination ≡ id
-unfolding is_to
-goes_to bytes p id read e = let z : ((header_in p).destination == id) ≡ true = sym (ap (λ x. is_to_by x id) read) ∙ e in grind (arith, nat_tests)
-
 module _ {ready : Bool} (serial generation : ℕ) (bytes : List ℕ) (past : List Moment) (i : ℕ) (s : InitiatorState) (heard : IsHeard past i serial generation bytes) (shown : IsShown past i s.target s.layer) (cored : Cored ready past i s) (h : AllHard past i) where
   hard_now : (cause : Cause) → (receive_step generation bytes empty_outbox s).0 ≡ judgements.Ignored cause → HardSo i (said (notes.Ignored serial cause)) past
   hard_now cause e hard packet was to from unforged p read access asks readable =

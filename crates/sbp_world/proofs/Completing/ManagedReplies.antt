@@ -15,7 +15,7 @@ use Rattle.sbp_world.proofs.Completing.ManagedTerms.{ignores_that_heard}
 use Rattle.sbp_world.proofs.Completing.ManagedWire.{IsIgnoring, KnownAt, KnownMoments}
 use Rattle.sbp_world.proofs.Hosts.Carrying.{Stood}
 use Rattle.sbp_world.proofs.Hosts.Owing as owing
-use Rattle.sbp_world.proofs.Hosts.Owing.{GotBehind, IsAnswer, behind_got, ignored_there, judged_there, owed, repeats_write, reply_of, stated, was_sent}
+use Rattle.sbp_world.proofs.Hosts.Owing.{GotBehind, IsAnswer, behind_got, ignored_there, judged_there, owed, repeats_write, reply_of, stated, was_sent, row_again}
 use Rattle.sbp_world.proofs.Hosts.Remaining.{ignores_that_same, remains}
 use Rattle.sbp_world.proofs.Hosts.ResponseTerms.{plain_all}
 use Rattle.sbp_world.proofs.Hosts.SentMoments.{answers_now, count_now, now, sent_below, serials_from}
@@ -25,14 +25,6 @@ use Rattle.sbp_world.proofs.Lists.Fair.{Told}
 use Rattle.sbp_world.proofs.Lists.ManageTerms.{none_is, same_some}
 use Rattle.sbp_world.proofs.Lists.StatusKnown.{each_from}
 use Rattle.sbp_world.proofs.Lists.StatusLogins.{each_there}
-
-again_row : (c n r a e : Bool) → may_ignore_by (row_of (record { is_current = c; is_for_node = n; is_response = r; is_awaited = a; is_repeated = e })) causes.Again ≡ true → e ≡ true
-again_row false n r a e f = cc
-again_row true false r a e f = cc
-again_row true true true false e f = cc
-again_row true true true true e f = cc
-again_row true true false a false f = cc
-again_row true true false a true f = refl
 
 injects_from : (front past : List Moment) (node : ℕ) → (terms (front ++ past)).injects node ≡ false → (terms past).injects node ≡ false
 injects_from [] past node e = e
@@ -154,7 +146,7 @@ module _ (all : List Moment) (i : ℕ) (st : Stood all i) (known : KnownMoments 
         judged_row = judged_there later past ask causes.Again (subst AreJudged (sym position) st.wire.laws.judged) q was
 
         repeats : is_repeated t (part_of q.bytes) q ≡ true
-        repeats = let f = facts_of t q in again_row f.is_current f.is_for_node f.is_response f.is_awaited f.is_repeated judged_row
+        repeats = let f = facts_of t q in row_again f.is_current f.is_for_node f.is_response f.is_awaited f.is_repeated judged_row
 
         writes : is_write q.bytes ≡ true
         writes = repeats_write t q rp.label rp.kind part_is judged_row

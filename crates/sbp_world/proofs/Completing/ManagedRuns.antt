@@ -1,5 +1,5 @@
 -- At each place of every run in which nobody injected packets, the response that the management operation waits for is whole, but for that to its status block.
-use Rattle.sbp_world.proofs.Words.Std.{arith, ◌≡◌, ◌∙◌, refl, sym, ap, subst, inl, ◌<◌, ℕ, suc, Bool, true, false, List, length, Option, Some, None, true≢false}
+use Rattle.sbp_world.proofs.Words.Std.{arith, ◌≡◌, ◌∙◌, refl, sym, ap, subst, inl, ◌<◌, ℕ, suc, Bool, true, false, List, length, Some, true≢false}
 use Rattle.sbp_world.proofs.Words.Wire.{Access, Moment, Sending, Terms, terms}
 use Rattle.sbp_world.proofs.Words.Target.{Disk, Operation}
 use Rattle.sbp_world.proofs.Words.Initiator.{start_of}
@@ -10,7 +10,6 @@ use Rattle.mgmt_agent.specs.declared.operation.Phase.{Phase}
 use Rattle.mgmt_agent.specs.declared.operation.Phase.TheVariants as phases
 use Rattle.sbp_journal.specs.declared.cause.Cause.{Cause}
 use Rattle.sbp_journal.specs.declared.cause.Cause.TheVariants as causes
-use Rattle.sbp_world.specs.Completing.Labels.{AlwaysFrom}
 use Rattle.sbp_world.specs.Completing.ManagedRefusals.{is_hard}
 use Rattle.sbp_world.specs.Completing.Managed.{AreManagedGiven, AreManagedGivenBefore, GivenBeforeLaw}
 use Rattle.sbp_world.proofs.Agents.Management.Holding.{Holding}
@@ -34,11 +33,12 @@ use Rattle.sbp_world.proofs.Lists.Fair.{told_everywhere}
 use Rattle.sbp_world.proofs.Lists.KeptTurns.{id_is}
 use Rattle.sbp_world.proofs.Lists.ListsProved.{closing}
 use Rattle.sbp_world.proofs.Lists.ManagedGots as managed_gots
-use Rattle.sbp_world.proofs.Lists.ManageTerms.{none_is, same_some}
+use Rattle.sbp_world.proofs.Lists.ManageTerms.{same_some}
 use Rattle.sbp_world.proofs.Lists.OfficeWrites.{goes_of}
 use Rattle.sbp_world.proofs.Lists.OrbsRead.{access_there, sender_there}
 use Rattle.sbp_world.proofs.Lists.ShortLines.{short_law}
 use Rattle.sbp_world.proofs.Lists.UnderwayRuns.{delivering}
+use Rattle.sbp_world.proofs.Completing.AnswersGots.{IsPacket, packet_from}
 
 -- ---- the status block
 -- the one that the operation waits for is taken
@@ -54,14 +54,6 @@ refusal causes.Slot e = refl
 refusal causes.Generation e = untrue e
 refusal causes.Label e = untrue e
 refusal causes.Again e = untrue e
-
-pub record IsPacket (so : Option Sending) : Type 0 where
-  pub packet : Sending
-  pub is : so ≡ Some packet
-
-packet_from : (so : Option Sending) (from : ℕ) → sender_in so ≡ Some from → IsPacket so
-packet_from None from e = none_is from e
-packet_from (Some packet) from e = record { packet = packet; is = refl }
 
 pub record RunKit (start : List Disk) (past : List Moment) (w : WorldState) : Type 0 where
   pub kit : Kit start past w
@@ -188,19 +180,6 @@ kits =
             reach = reach_everywhere.between line run r has small size next most told m so_far;
           };
     }
-
-abbrev pub GivenBut : List Disk → List Moment → WorldState → Type 0
-GivenBut start past w = IsTame past → AreStatusesTaken start past w → AreManagedGiven w
-
-given_places : EveryPlace GivenBut
-given_places = by_places RunKit GivenBut (λ units ready has start past lines w h k tame statuses. given_here units ready has start w h k tame statuses) kits
-
-pub given_but : AlwaysFrom GivenBut
-given_but = record {
-  after_lines = λ line run r has small size tame. given_places.after_lines line run r has small size (closing.before open_lists_law line run r has small size (inl tame)) tame;
-  between = λ line run r has small size next most told m tame.
-      given_places.between line run r has small size next most told m (closing.between open_lists_law line run r has small size next (more_deliveries most) (more_than_one most) told m (inl tame)) tame;
-}
 
 before_places : EveryPlace (λ start past w. IsTame past → AreManagedGivenBefore w)
 before_places = by_places RunKit (λ start past w. IsTame past → AreManagedGivenBefore w) (λ units ready has start past lines w h k tame. before_here units ready has start w h k tame) kits

@@ -18,6 +18,7 @@ use Rattle.sbp_world.proofs.Completing.AnswersRuns.{by_places}
 use Rattle.sbp_world.proofs.Completing.ManagedPlaces.{IsTakenWrite, ignored_sent}
 use Rattle.sbp_world.proofs.Completing.ManagedRefusals.{refusals_law}
 use Rattle.sbp_world.proofs.Completing.ManagedReplies.{IsTakenAt}
+use Rattle.sbp_world.proofs.Completing.AnswersGots.{IsPacket}
 use Rattle.sbp_world.proofs.Completing.ManagedRuns as runs
 use Rattle.sbp_world.proofs.Completing.ManagedRuns.{AreStatusesTaken, RunKit, given_here, kits}
 use Rattle.sbp_world.proofs.Hosts.Owing.{IsAsking, asking}
@@ -42,7 +43,7 @@ module _ (units ready : ℕ) (has : 0 < units) (start : List Disk) {past : List 
   ms = hist past w
 
   module _ (op : Operation) (i ask : ℕ) (access : Access) (operation : (target_at start ms).manager.operation ≡ Some op) (phase : op.phase ≡ phases.Status) (inside : i < length w.initiators) (source : op.source ≡ id_for (terms ms) 0 (suc i)) (manages : (target_at start ms).manages ≡ Some ask) (asks : access_at (terms ms) ask ≡ Some access) where
-    abbrev q : runs.IsPacket ((terms ms).sent ask)
+    abbrev q : IsPacket ((terms ms).sent ask)
     q = runs.packet units ready has start w h k.run tame op i ask access operation inside source manages asks
 
     opened : IsOpenFor ms i ask access.offset
@@ -74,7 +75,7 @@ module _ (units ready : ℕ) (has : 0 < units) (start : List Disk) {past : List 
         let all : AllHard ms i = k.hard i inside in
         let so : HardSo i (said (notes.Ignored ask cause)) earlier = each_there (HardSo i) later (said (notes.Ignored ask cause)) earlier (subst (λ x. AllHard x i) (sym e) all) in
         let there = ignored_sent ms (runs.known units ready has start w h k.run tame) (k.run.kit.stood i inside).wire.laws.serials later earlier ask cause e a q.is in
-        opened.opens later earlier cause e
+        opened.opens later earlier cause e hard
         (so hard a there
         (runs.to units ready has start w h k.run tame op i ask access operation inside source manages asks)
         (runs.from units ready has start w h k.run tame op i ask access operation inside source manages asks)

@@ -77,7 +77,7 @@ begins_judged : (u : Option Transaction) (s : ℕ) (q : Sending) (t : Terms) →
 begins_judged None s q t = refl
 begins_judged (Some u) s q t = refl
 
-gives_judged : (u : Option Transaction) (rcode : ℕ) (t : Terms) → (gives u rcode t).judged ≡ t.judged
+pub gives_judged : (u : Option Transaction) (rcode : ℕ) (t : Terms) → (gives u rcode t).judged ≡ t.judged
 gives_judged None rcode t = refl
 gives_judged (Some u) rcode t = refl
 

@@ -6,9 +6,9 @@ use Rattle.sbp_journal.specs.declared.note.Note.TheVariants as notes
 use Rattle.bus_transactions.proofs.All.{all_stand}
 use Rattle.bus_transactions.proofs.Facts.{Facts, fair, request_asked}
 use Rattle.bus_transactions.proofs.Follows.{found_kept, is_live}
-use Rattle.bus_transactions.proofs.MoveOthers.{settled}
 use Rattle.bus_transactions.proofs.Stands.{DueIs, IsDue, Stands}
 use Rattle.sbp_world.proofs.Lists.ManageTerms.{none_is, same_some}
+use Rattle.sbp_world.proofs.Lists.ManageWire.{none_due}
 
 pub record IsSending (past : List Moment) : Type 0 where
   -- the request that it answers is the present one of its transaction
@@ -34,9 +34,6 @@ unfolding is_plain
 plain (notes.Sent s generation from to bytes) past e h = cc
 plain (notes.Ignored s cause) past e h = cc
 plain _ past e h = (tt, h)
-
-none_due : (w : Wire) → Stands w → w.due ≡ None → (terms w.past).owes ≡ None
-none_due w s e = (settled w s e).due_is
 
 quiet_sending : (w : Wire) → Stands w → w.due ≡ None → IsSending w.past
 quiet_sending w s e = record {

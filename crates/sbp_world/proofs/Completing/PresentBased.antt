@@ -12,12 +12,13 @@ use Rattle.sbp_world.proofs.Agents.Management.Begins.{first_holds}
 use Rattle.sbp_world.proofs.Agents.Management.Lines.{all_heard, opens}
 use Rattle.sbp_world.proofs.Agents.Management.Runs.{holds_after, no_repeats, not_reset}
 use Rattle.sbp_world.proofs.Agents.Management.Still.{hist}
+use Rattle.sbp_world.proofs.Completing.LatestGranted.{login_granted}
 use Rattle.sbp_world.proofs.Completing.PresentDone.{ToldAt, each_on, grants_of, told_turn}
 use Rattle.sbp_world.proofs.Completing.PresentTied.{IsTied, has_tied, names_tied, turn_tied, zero_tied}
 use Rattle.sbp_world.proofs.Hosts.Runs.{are_told, count_after, count_between}
 use Rattle.sbp_world.proofs.Lists.BufferClears.{buffers_held}
 use Rattle.sbp_world.proofs.Lists.Courses.{EveryPlace, Keeps, at_between, at_lines, more_than_one}
-use Rattle.sbp_world.proofs.Lists.HostLogins.{ReadyAt, login_begun}
+use Rattle.sbp_world.proofs.Lists.HostLogins.{ReadyAt}
 use Rattle.sbp_world.proofs.Lists.IdsBegun.{BegunAt, begun_after, begun_between}
 use Rattle.sbp_world.proofs.Lists.IdsRuns.{AreFewIds, few_before, few_ids_everywhere, first_ids}
 use Rattle.sbp_world.proofs.Lists.Judging.{counts_at, goes_next}
@@ -63,9 +64,12 @@ kit_everywhere = record {
 abbrev IsTiedIn : WorldState → LoginResponse → Type 0
 IsTiedIn w response = IsTied w.target.logins response
 
+abbrev AreTiedIn : WorldState → LoginResponse → ℕ → Type 0
+AreTiedIn w response count = IsTiedIn w response
+
 record Tie (start : List Disk) (past : List Moment) (w : WorldState) (i : ℕ) : Type 0 where
   buffer : (orb : ℕ) (bytes : List ℕ) → IsTold start past i orb bytes → bytes ≡ good_block orb → (running : Running) → (initiator_at w i).operation ≡ Some running → running.operation ≡ operations.Login → IsTiedIn w (login_response (response_of running (initiator_at w i)))
-  each : EachMoment (ToldAt (IsTiedIn w) i) past
+  each : EachMoment (ToldAt (AreTiedIn w) i) past
 
 abbrev Ties : List Disk → List Moment → WorldState → Type 0
 Ties start past w = (i : ℕ) → i < length w.initiators → IsCalmBeside past i → FewLogins past → Tie start past w i
@@ -85,9 +89,9 @@ all_ties units ready has start past s later t lines more g h h_now q q_now had i
     record {
       buffer = turn_buffer placed_turns stored_turns buffer_turns units ready start past s later t has g h h_now q.with_held q_now.with_held q.live i inside beside (IsTiedIn s.world) (IsTiedIn t.world) on old.buffer
           (λ response n. names_tied t.world.target.logins sound (q_now.ids few some_now).rising (id_in t.world i) response n) turned;
-      each = told_turn (IsTiedIn t.world) start (hist past s.world) i (counts_at s.world h.sound.stands) q.with_held.more.contents
+      each = told_turn (AreTiedIn t.world) start (hist past s.world) i (counts_at s.world h.sound.stands) q.with_held.more.contents
           (buffered (IsTiedIn t.world) start (hist past s.world) i k.ready (initiator_at s.world i) k.cored (q.with_held.more.holds i inside) (λ orb bytes x e running is login. on _ (old.buffer orb bytes x e running is login)))
-          (hist later t.world) (goes_next past s later t g) (q_now.with_held.more.given.laws.hands i within beside.0) (each_on (IsTiedIn s.world) (IsTiedIn t.world) on i (hist past s.world) old.each);
+          (hist later t.world) (goes_next past s later t g) (q_now.with_held.more.given.laws.hands i within beside.0) (each_on (AreTiedIn s.world) (AreTiedIn t.world) (λ response count. on response) i (hist past s.world) old.each);
     }
 
 first_ties : (line : ℕ) (run : Run) → run.initiators ≤ 4 → 0 < run.units → run.units ≤ 4 → length run.start.disks ≡ run.units → Ties run.start.disks (moments_behind line run []) (beginning run).world
@@ -152,7 +156,7 @@ module _ (ready : Bool) (n : ℕ) (i : ℕ) (Good : LoginResponse → Type 0) (o
   ready_one (asked line event) past b = tt
   ready_one (said note) past b = ready_note note past b
 
-  ready_each : (past : List Moment) → EachMoment (BegunAt ready n) past → EachMoment (ReadyAt Good i) past
+  pub ready_each : (past : List Moment) → EachMoment (BegunAt ready n) past → EachMoment (ReadyAt Good i) past
   ready_each [] b = tt
   ready_each (m ∷ past) b = (ready_one m past b.0, ready_each past b.1)
 
@@ -168,7 +172,7 @@ based_at : (start : List Disk) (ready : Bool) (n : ℕ) (past : List Moment) (w 
 based_at start ready n past w k few i inside calm same response carries place login there live of own =
     let tie = k.ties i inside (calm, inr few) few in
     let host_tied : IsTiedIn w (host_at past i).login =
-    login_begun (IsTiedIn w) past i (ready_each ready n i (IsTiedIn w) (k.ready_tied few i inside) past (k.begun i inside)) (zero_tied w.target.logins k.sound _ refl) (grants_of (IsTiedIn w) i past (k.held.granted i inside) tie.each) in
+    login_granted (AreTiedIn w) i past (ready_each ready n i (IsTiedIn w) (k.ready_tied few i inside) past (k.begun i inside)) (zero_tied w.target.logins k.sound _ refl) (grants_of (AreTiedIn w) i past (k.held.granted i inside) tie.each) in
     (subst (IsTiedIn w) ((k.held.holds i inside).login response carries) host_tied).tied place login there own
 
 -- ---- of every run

@@ -39,6 +39,10 @@ pub record IsGot (past : List Moment) (w v : WorldState) (r : ℕ) : Type 0 wher
   -- its judgement stands in the history
   pub more : List Moment
   pub judged : more ++ said (judged_note r (received run sent.generation sent.bytes (whole_of w.target media)).0) ∷ hist past w ≡ hist past v
+  -- and what the target hands out stands behind that
+  pub u : WorldState
+  pub fresh : hist past u ≡ said (judged_note r (received run sent.generation sent.bytes (whole_of w.target media)).0) ∷ hist past w
+  pub is : v ≡ handed_out 0 0 (received run sent.generation sent.bytes (whole_of w.target media)).1.outbox u
 
 -- ---- notes that judge no packet, or another one
 module _ (r : ℕ) where
@@ -119,6 +123,9 @@ module _ (past : List Moment) (s : Scene) (f : IsSeatedWell s.world) (serial : �
                 news = news_is ∙ ap (λ k. (terms (said (judged_note k x.0) ∷ hist past w)).news r) (sym same);
                 more = map said (handed_quiet 0 0 x.1.outbox u (others_quiet x.1.outbox.sides others)).more;
                 judged = ap (λ k. map said (handed_quiet 0 0 x.1.outbox u (others_quiet x.1.outbox.sides others)).more ++ said (judged_note k x.0) ∷ hist past w) same ∙ judged_is;
+                u = u;
+                fresh = ap (λ ns. said (judged_note serial x.0) ∷ (map said ns ++ past)) (marked_fresh serial again (with_target x.1.node w)) ∙ ap (λ k. said (judged_note k x.0) ∷ hist past w) (sym same);
+                is = refl;
               })
           by false e = inl (news_is ∙ judged_same r serial e x.0 (hist past w))
 
@@ -187,6 +194,7 @@ pub record GotFrom (past : List Moment) (before : WorldState) (later : List Mome
   pub store : w.store ≡ before.store
   pub lists_are : (i : ℕ) → lists (hist later w) i ≡ lists (hist past before) i
   pub news_are : (terms (hist later w)).news r ≡ (terms (hist past before)).news r
+  pub begins : (hist later w ≡ hist past before) ⊎ ((line : ℕ) × ((event : Event) × (hist later w ≡ asked line event ∷ hist past before)))
   pub got : IsGot later w v r
 
 abbrev pub TurnGets : List Moment → WorldState → List Moment → WorldState → ℕ → Type 0
@@ -208,7 +216,7 @@ module _ (past : List Moment) (s : Scene) (f : IsSeatedWell s.world) (line : ℕ
 
   line_out : (v : WorldState) → ((terms (hist now v)).news r ≡ (terms (hist now (without_notes s.world))).news r) ⊎ IsGot now (without_notes s.world) v r → To v
   line_out v (inl e) = inl (e ∙ asked_news)
-  line_out v (inr g) = inr (record { w = without_notes s.world; target = refl; places = refl; store = refl; lists_are = λ i. refl; news_are = asked_news; got = g })
+  line_out v (inr g) = inr (record { w = without_notes s.world; target = refl; places = refl; store = refl; lists_are = λ i. refl; news_are = asked_news; begins = inr (line, (event, refl)); got = g })
 
   one_line : (serial : ℕ) (again b : Bool) (told : List (Option Told)) → MayIf b serial told (begun s) → To (delivered_if b line serial again told (begun s)).world
   one_line serial again true [] m = absurd m
@@ -236,7 +244,7 @@ line_gets past s f line (events.Key unit key) told o m r known = quiet_line past
 module _ (past : List Moment) (s : Scene) (f : IsSeatedWell s.world) (r : ℕ) (known : (sent : Sent) → found_sent r s.world.store.kept ≡ Some sent → sent.to ≡ 0) where
   next_out : (v : WorldState) → ((terms (hist past v)).news r ≡ (terms (hist past s.world)).news r) ⊎ IsGot past s.world v r → TurnGets past s.world past v r
   next_out v (inl e) = inl e
-  next_out v (inr g) = inr (record { w = s.world; target = refl; places = refl; store = refl; lists_are = λ i. refl; news_are = refl; got = g })
+  next_out v (inr g) = inr (record { w = s.world; target = refl; places = refl; store = refl; lists_are = λ i. refl; news_are = refl; begins = inl refl; got = g })
 
   next_by : (one : Option Told) (o : Option ℕ) → settling.MayAt o one s → TurnGets past s.world past (delivered_at o one s).world r
   next_by one None m = absurd m

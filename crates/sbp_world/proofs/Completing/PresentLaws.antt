@@ -2,9 +2,9 @@
 -- cut, is the present one, and a SUSPENDED agent has it, unless an agent of the initiator is DEAD.
 use Rattle.sbp_world.proofs.Words.Std.{◌≡◌, inr, ◌<◌, ℕ, List, ◌++◌, length}
 use Rattle.sbp_world.proofs.Words.Wire.{Moment}
-use Rattle.sbp_world.proofs.Words.World.{Always, FewLogins, HasGivenUp, IsTame, IsTameOrFew, Under, WhereTameOrFew, WorldState}
+use Rattle.sbp_world.proofs.Words.World.{Always, FewLogins, HasGivenUp, IsTame, IsTameOrFew, Under, WorldState}
 use Rattle.sbp_world.specs.Completing.Present.{FreshFewLaw, IsPresent}
-use Rattle.sbp_world.specs.Completing.PresentHomes.{HomesFewLaw, HomesLaw}
+use Rattle.sbp_world.specs.Completing.PresentHomes.{HomesFewLaw}
 use Rattle.sbp_world.specs.Completing.RestStatuses.{HasDead}
 use Rattle.sbp_world.specs.Completing.Sights.{IsFresh, rung}
 use Rattle.sbp_laws.specs.Budget.{Lossless}
@@ -15,7 +15,7 @@ use Rattle.sbp_world.proofs.Completing.PresentHad.{present_law}
 use Rattle.sbp_world.proofs.Completing.PresentLive.{AreHomeFor, IsAny, homes_while}
 use Rattle.sbp_world.proofs.Completing.PresentRuns.{Asks}
 use Rattle.sbp_world.proofs.Completing.PresentTakes.{Kit, all_take}
-use Rattle.sbp_world.proofs.Lists.Beside.{few_back, tame_or_few_before}
+use Rattle.sbp_world.proofs.Lists.Beside.{few_back}
 use Rattle.sbp_world.proofs.Lists.OneUp.{open_for_law}
 use Rattle.sbp_world.proofs.Lists.ShortLines.{short_law}
 use Rattle.sbp_world.proofs.Lists.UpLatest.{up_latest_law}
@@ -53,13 +53,6 @@ pub asks_nothing : (past : List Moment) (i n : ℕ) → nothing.of past i n
 unfolding nothing
 asks_nothing past i n = tt
 
-pub kit_of_homes : HomesLaw → Under (WhereTameOrFew (Kit nothing))
-kit_of_homes homes =
-    kit_law nothing IsTameOrFew tame_or_few_before (λ past so. so) (record {
-      after_lines = λ line run r has small size so_far so i n serial b calm also any x. homes.after_lines line run r has small size so_far so i n serial b calm x;
-      between = λ line run r has small size next most told m so_far so i n serial b calm also any x. homes.between line run r has small size next most told m so_far so i n serial b calm x;
-    })
-
 few_tame_or_few : (past : List Moment) → FewLogins past → IsTameOrFew past
 few_tame_or_few past few = inr few
 
@@ -72,6 +65,9 @@ home_still = record {
 
 homes_few : Under (λ past w. FewLogins past → AreHomeFor nothing IsAny past w)
 homes_few = homes_while nothing FewLogins few_tame_or_few based_few_law home_still
+
+pub kit_few : Under (λ past w. FewLogins past → Kit nothing past w)
+kit_few = kit_law nothing FewLogins few_back few_tame_or_few homes_few
 
 pub homes_few_law : HomesFewLaw
 unfolding nothing

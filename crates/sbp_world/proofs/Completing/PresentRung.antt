@@ -25,6 +25,7 @@ use Rattle.sbp_world.proofs.Hosts.Requested.{done_sends}
 use Rattle.sbp_world.proofs.Hosts.Telling.{action_law}
 use Rattle.sbp_world.proofs.Pointers.GuardDoes.{Ready}
 use Rattle.sbp_world.proofs.Pointers.Guarded.{Guarded}
+use Rattle.sbp_world.proofs.Pointers.Showing.{IsShowing}
 use Rattle.sbp_world.proofs.Pointers.Guarding.{first_guarded, guarded_carried}
 
 -- ---- ORB_POINTER was written for a list
@@ -242,6 +243,19 @@ module _ (s : InitiatorState) (none : s.lists.slots.present ≡ None) where
   unfolding act_step
   ring_none = judged_none (refusal actions.Ring (facts_with true s actions.Ring))
 
+-- what rings has a list
+pub ring_present : (action : Action) (past : List Moment) (i : ℕ) (s : InitiatorState) → (act_step action empty_outbox s).1.0.sides ≡ own (action_notes action past i) → IsShowing past i s → action ≡ actions.Ring → present_list past i ≡ Some (new_list past i)
+ring_present action past i s sides_are shown e = by s.lists.slots.present refl
+  where
+    by : (p : Option PresentList) → s.lists.slots.present ≡ p → present_list past i ≡ Some (new_list past i)
+    by None n =
+        let sides_none : (act_step action empty_outbox s).1.0.sides ≡ [] = ap (λ a. (act_step a empty_outbox s).1.0.sides) e ∙ ring_none s n in
+        let told : own (action_notes actions.Ring past i) ≡ [] = ap (λ a. own (action_notes a past i)) (sym e) ∙ (sym sides_are ∙ sides_none) in
+        absurd (let z : sides.Own (notes.Rung i (new_list past i) (linked past i (new_list past i) - 1)) ∷ [] ≡ [] = told in cc)
+    by (Some list) n =
+        let is = shown list.tail.list (ap (λ p. is_list p list.tail.list) n ∙ itself list.tail.list) in
+        is ∙ ap (λ x. Some x) (sym (ap (list_for past i) is))
+
 -- ---- what is carried on
 pub record Written (ready : Bool) (past : List Moment) (i : ℕ) (s : InitiatorState) : Type 0 where
   pub guarded : Guarded ready past i s
@@ -271,16 +285,7 @@ module _ (ready : Bool) (action : Action) (past : List Moment) (i : ℕ) (s : In
       by false r = own_quiet r
 
   present_then : action ≡ actions.Ring → present_list past i ≡ Some (new_list past i)
-  present_then e = by s.lists.slots.present refl
-    where
-      by : (p : Option PresentList) → s.lists.slots.present ≡ p → present_list past i ≡ Some (new_list past i)
-      by None n =
-          let sides_none : (act_step action empty_outbox s).1.0.sides ≡ [] = ap (λ a. (act_step a empty_outbox s).1.0.sides) e ∙ ring_none s n in
-          let told : own (action_notes actions.Ring past i) ≡ [] = ap (λ a. own (action_notes a past i)) (sym e) ∙ (sym sides_are ∙ sides_none) in
-          absurd (let z : sides.Own (notes.Rung i (new_list past i) (linked past i (new_list past i) - 1)) ∷ [] ≡ [] = told in cc)
-      by (Some list) n =
-          let is = h.guarded.shown list.tail.list (ap (λ p. is_list p list.tail.list) n ∙ itself list.tail.list) in
-          is ∙ ap (λ x. Some x) (sym (ap (list_for past i) is))
+  present_then e = ring_present action past i s sides_are h.guarded.shown e
 
   asking_written : (packet : Outgoing) (serial generation : ℕ) → (terms past).injected serial ≡ false → IsRequest (number_in packet.label) packet.bytes → AreWritten (said (notes.Sent serial generation (suc i) 0 packet.bytes) ∷ behind t.0.sides past) i
   asking_written packet serial generation honest q = by (rings action) refl

@@ -16,7 +16,7 @@ use Rattle.sbp_world.proofs.Wire.Entries.{bus_law}
 
 -- ---- a run begins once
 -- nothing was said
-abbrev NothingSaid : List Moment → Type 0
+abbrev pub NothingSaid : List Moment → Type 0
 NothingSaid [] = Unit {0}
 NothingSaid (asked line event ∷ past) = NothingSaid past
 NothingSaid (said note ∷ past) = ⊥

@@ -31,6 +31,7 @@ use Rattle.sbp_world.proofs.Lists.ManageSends.{sent_terms}
 use Rattle.sbp_world.proofs.Lists.OpenNews.{all_grow}
 use Rattle.sbp_world.proofs.Wire.Bus.{holds}
 use Rattle.sbp_world.proofs.Wire.Agrees.{Agrees, got_agrees, ignored_agrees, sends_agrees, timed_agrees, with_begun, with_sent}
+use Rattle.sbp_world.proofs.Hosts.Cores.{not_so}
 
 -- ---- what stood as a request was sent
 abbrev AskedFacts : Moment → List Moment → Type 0
@@ -129,14 +130,10 @@ opened_older (events.Repeat serial) t older = same_older t (opened (events.Repea
 opened_older event t older = same_older t (opened event t) refl refl refl (λ s. omega arith) older
 
 -- ---- two nodes that injected no packets
-not_on : (b : Bool) → not b ≡ true → b ≡ false
-not_on true e = untrue e
-not_on false e = refl
-
 both_parts : (injects : ℕ → Bool) (u : Transaction) → both injects u ≡ true → (injects u.requester ≡ false) × (injects u.responder ≡ false)
-both_parts injects u e = (not_on (injects u.requester) (and_first (not (injects u.requester)) (not (injects u.responder)) e), not_on (injects u.responder) (and_second (not (injects u.requester)) (not (injects u.responder)) e))
+both_parts injects u e = (not_so (injects u.requester) (and_first (not (injects u.requester)) (not (injects u.responder)) e), not_so (injects u.responder) (and_second (not (injects u.requester)) (not (injects u.responder)) e))
 
-both_made : (injects : ℕ → Bool) (u : Transaction) → injects u.requester ≡ false → injects u.responder ≡ false → both injects u ≡ true
+pub both_made : (injects : ℕ → Bool) (u : Transaction) → injects u.requester ≡ false → injects u.responder ≡ false → both injects u ≡ true
 both_made injects u e f = ap (λ b. not b && not (injects u.responder)) e ∙ ap not f
 
 -- ---- a packet is sent

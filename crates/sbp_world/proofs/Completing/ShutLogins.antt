@@ -48,8 +48,8 @@ pub given_where_latest_law : GivenWhereLatestLaw
 given_where_latest_law = record {
   after_lines = λ line run r has small size tame latest.
       given_where_logins_open_law.after_lines line run r has small size tame
-      (λ op i ask access operation phase inside source manages asks own later earlier cause e shut. latest_unshut (host_at earlier i) access.offset (latest op i ask access operation phase inside source manages asks own later earlier cause e) shut);
+      (λ op i ask access operation phase inside source manages asks own later earlier cause e hard shut. latest_unshut (host_at earlier i) access.offset (latest op i ask access operation phase inside source manages asks own later earlier cause e hard) shut);
   between = λ line run r has small size next most told m tame latest.
       given_where_logins_open_law.between line run r has small size next most told m tame
-      (λ op i ask access operation phase inside source manages asks own later earlier cause e shut. latest_unshut (host_at earlier i) access.offset (latest op i ask access operation phase inside source manages asks own later earlier cause e) shut);
+      (λ op i ask access operation phase inside source manages asks own later earlier cause e hard shut. latest_unshut (host_at earlier i) access.offset (latest op i ask access operation phase inside source manages asks own later earlier cause e hard) shut);
 }

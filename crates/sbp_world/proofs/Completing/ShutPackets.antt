@@ -1,9 +1,9 @@
 -- The status block of the management operation is written to the FIFO of the ORB that the target read last.
-use Rattle.sbp_world.proofs.Words.Std.{arith, ◌≡◌, ◌∙◌, refl, sym, ap, subst, ◌≤◌, ◌++◌, nat_le, ℕ, zero, Bool, true, false, cond, List, ◌∷◌, length, Option, Some, None, none-some, same_Some}
+use Rattle.sbp_world.proofs.Words.Std.{arith, ◌≡◌, ◌∙◌, sym, ap, subst, ◌≤◌, ◌++◌, nat_le, ℕ, zero, Bool, true, false, cond, List, ◌∷◌, length, Option, Some, None, none-some, same_Some}
 use Rattle.sbp_world.proofs.Words.Wire.{Access, Body, Moment, SerialsCount, block_write, largest, said, terms}
 use Rattle.sbp_world.proofs.Words.Target.{Disk, Operation, manager_body}
 use Rattle.sbp_world.proofs.Words.Initiator.{Ask, ManagementOrb}
-use Rattle.sbp_world.proofs.Words.Laws.{Decided, EachMoment, access_at, is_nothing, target_at}
+use Rattle.sbp_world.proofs.Words.Laws.{Decided, EachMoment, access_at, target_at}
 use Rattle.sbp_world.proofs.Words.World.{AreAsked, HasIn, HasOrb, IsOn, WasAsked, access_for, last_read}
 use Rattle.mgmt_agent.specs.declared.operation.Phase.{Phase}
 use Rattle.mgmt_agent.specs.declared.operation.Phase.TheVariants as phases
@@ -15,13 +15,9 @@ use Rattle.sbp_world.proofs.Lists.ContentManages.{IsSoBefore, SameDecided, bound
 use Rattle.sbp_world.proofs.Lists.OrbsCarried.{carried_orbs_law}
 use Rattle.sbp_world.proofs.Lists.OrbsRead.{access_there}
 use Rattle.sbp_world.proofs.Lists.StatusKnown.{each_from}
+use Rattle.sbp_world.proofs.Lists.ResponsePackets.{some_ask}
 
-some_ask : (ask : Ask) (out : List ℕ) (body : Body) → manager_body ask out ≡ Some body → is_nothing ask ≡ false
-some_ask (asks.Read offset len) out body e = refl
-some_ask (asks.Write offset len) out body e = refl
-some_ask asks.Nothing out body e = absurd (none-some body e)
-
-written : (b : Bool) (offset : ℕ) (out : List ℕ) (body : Body) → cond b (Some (block_write offset out)) None ≡ Some body → (access_for body).offset ≡ offset
+pub written : (b : Bool) (offset : ℕ) (out : List ℕ) (body : Body) → cond b (Some (block_write offset out)) None ≡ Some body → (access_for body).offset ≡ offset
 written true offset out body e =
     let is : block_write offset out ≡ body = cc in
     ap (λ x. (access_for x).offset) (sym is)

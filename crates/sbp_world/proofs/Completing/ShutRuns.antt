@@ -63,7 +63,7 @@ place_is_fifo zero small = refl
 place_is_fifo (suc zero) small = refl
 place_is_fifo (suc (suc place)) small = absurd (omega (arith, small))
 
-place_open : (logins : ℕ) (is_out : Bool) (place : ℕ) → place < 2 → fifo_at logins is_out (0x12002000 + 0x20 * place) ≡ Some fifos.Place
+pub place_open : (logins : ℕ) (is_out : Bool) (place : ℕ) → place < 2 → fifo_at logins is_out (0x12002000 + 0x20 * place) ≡ Some fifos.Place
 unfolding fifo_at
 place_open logins is_out zero small = refl
 place_open logins is_out (suc zero) small = refl
@@ -85,7 +85,7 @@ opened start past w to logins op i ask access operation phase inside source mana
 
     by : IsItsFifo access.offset → IsOpenWhenIgnored past i ask access.offset
     by (of_login own) = logins op i ask access operation phase inside source manages asks own
-    by (of_place place small is) = λ later earlier cause e shut. not_shut (host_at earlier i) access.offset place small is shut
+    by (of_place place small is) = λ later earlier cause e hard shut. not_shut (host_at earlier i) access.offset place small is shut
 
 pub given_where_logins_open_law : GivenWhereLoginsOpenLaw
 given_where_logins_open_law = record {

@@ -1,5 +1,5 @@
 -- No packet that an agent waits for is refused, in every run in which no initiator injected packets, if each status that it waits for goes to an open FIFO.
-use Rattle.sbp_world.proofs.Words.Std.{arith, ◌≡◌, ◌∙◌, refl, sym, ap, subst, inl, ◌<◌, ◌≤◌, ◌+◌, ◌==◌, ℕ, suc, Bool, true, false, List, [], ◌∷◌, ◌++◌, length, map, Option, Some, None, nat_tests, false≢true, true≢false, same_Some}
+use Rattle.sbp_world.proofs.Words.Std.{arith, ◌≡◌, ◌∙◌, refl, sym, ap, subst, inl, ◌<◌, ◌≤◌, ◌+◌, ◌==◌, ℕ, suc, Bool, true, false, List, [], ◌∷◌, ◌++◌, length, map, Option, Some, nat_tests, false≢true, true≢false, same_Some}
 use Rattle.sbp_world.proofs.Words.Wire.{Access, AreJudged, Cause, Event, Moment, Note, Sending, SerialsCount, Terms, asked, by_generation, may_ignore_by, row_of, said, terms}
 use Rattle.sbp_world.proofs.Words.Target.{Disk, Which, Ahead, Main}
 use Rattle.sbp_world.proofs.Words.Initiator.{Ask}
@@ -9,10 +9,11 @@ use Rattle.bus_transactions.specs.Judging.{facts_of}
 use Rattle.sbp_journal.specs.declared.cause.Cause.TheVariants as causes
 use Rattle.sbp_journal.specs.declared.note.Note.TheVariants as notes
 use Rattle.sbp_world.specs.Completing.Answers.{WaitsOn}
-use Rattle.sbp_world.specs.Completing.Writes.{AcceptedLaw, IsAccepted, UnrefusedAt, is_refused}
+use Rattle.sbp_world.specs.Completing.Labels.{AlwaysWhere}
+use Rattle.sbp_world.specs.Completing.Writes.{AreAccepted, IsAccepted, NoneRefused, UnrefusedAt, is_refused}
 use Rattle.sbp_world.proofs.Agents.Management.Holding.{past_terms}
 use Rattle.sbp_world.proofs.Agents.Management.Still.{hist}
-use Rattle.sbp_world.proofs.Common.{moment_joined, none_is}
+use Rattle.sbp_world.proofs.Common.{moment_joined}
 use Rattle.sbp_world.proofs.Completing.LabelsPlaces.{IsHolding, holding_everywhere}
 use Rattle.sbp_world.proofs.Completing.WritesAccepted.{not_barred}
 use Rattle.sbp_world.proofs.Completing.WritesRefused.{AllBarred, barred_there, bars_between, bars_of}
@@ -42,6 +43,7 @@ use Rattle.sbp_world.proofs.Lists.TameWalks.{Where, from_after, from_between}
 use Rattle.sbp_world.proofs.Lists.UnderwayRuns.{delivering}
 use Rattle.sbp_world.proofs.Lists.Walks.{Walks}
 use Rattle.sbp_world.specs.Runs.{Run}
+use Rattle.sbp_world.proofs.Completing.AnswersGots.{packet_from}
 
 -- ---- a packet that an agent waits for
 record IsWaited (start : List Disk) (past : List Moment) (serial : ℕ) : Type 0 where
@@ -59,14 +61,6 @@ record IsWaited (start : List Disk) (past : List Moment) (serial : ℕ) : Type 0
 abbrev AreWaited : (ℕ → Bool) → List Disk → List Moment → ℕ → Type 0
 AreWaited wild start past serial = (j : ℕ) → wild j ≡ false → (place : ℕ) (which : Which) → place < 8 → serial_of which (agent_at (over (target_at start past)) place) ≡ Some serial → IsWaited start past serial
 
-record IsPacket (so : Option Sending) : Type 0 where
-  packet : Sending
-  is : so ≡ Some packet
-
-packet_by : (so : Option Sending) (from : ℕ) → sender_in so ≡ Some from → IsPacket so
-packet_by None from e = none_is from e
-packet_by (Some packet) from e = record { packet = packet; is = refl }
-
 -- at a place
 abbrev IsPlace : List Disk → List Moment → WorldState → Type 0
 IsPlace start past w = AreAskedAt start past × ((place i serial : ℕ) (access : Access) → WaitsOn start past place i serial access → access.is_write ≡ true → 0x1200_2000 ≤ access.offset → IsAccepted past i access)
@@ -75,7 +69,7 @@ module _ (start : List Disk) (past : List Moment) (asked_so : AreAskedAt start p
   module _ (place : ℕ) (which : Which) (small : place < 8) (serial : ℕ) (waits : serial_of which (agent_at (over (target_at start past)) place) ≡ Some serial) where
     waited_by : (initiator fifo : ℕ) (ask : Ask) (is_status : Bool) → HasAsked (terms past) initiator fifo serial ask is_status → IsWaited start past serial
     waited_by initiator fifo ask is_status r =
-        let p = packet_by ((terms past).sent serial) 0 r.from in
+        let p = packet_from ((terms past).sent serial) 0 r.from in
         let from = same_Some p.packet.from 0 (ap sender_in (sym p.is) ∙ r.from) in
         let to : p.packet.to ≡ initiator + 1 = same_Some p.packet.to (initiator + 1) (ap receiver_in (sym p.is) ∙ r.to) in
         let next : p.packet.to ≡ suc initiator = omega (arith, to) in
@@ -237,46 +231,53 @@ ours_at start now w h serial q e =
     (stands.is.knows.ours serial q (ap (λ (t : Terms). t.sent serial) (past_terms w stands) ∙ (ap (λ ms. (terms ms).sent serial) h.is ∙ e))).to
 
 -- ---- each place of a run
-pub accepted_law : AcceptedLaw
-accepted_law accepts = record {
-  after_lines = λ line run r has small size tame.
-      let now = history_of line run in
-      let w = (after (beginning run) run.entries).world in
-      let so_far = closing.before open_lists_law line run r has small size (inl tame) in
-      let inside : (i : ℕ) → i < length w.initiators → i < run.initiators = (λ i b. subst (λ n. i < n) (count_after run run.entries) b) in
-      unrefused_from run.start.disks now (length w.initiators)
-      (record {
-        wire = of_wire line run r;
-        fair = (told_everywhere.after_lines line run r has small size so_far).fair;
-        bars = λ i b. bars_of line run r i (inside i b);
-        writes = λ i b. slotted.writes_of line run r i (inside i b);
-        ours = ours_at run.start.disks now w (holding_everywhere.after_lines line run r has small size);
-        waited = from_after IsTame tame_before Nothing IsPlace AllWaited no_ground under waited_walk first_waited line run r has small size so_far tame;
-      })
-      tame [] now refl;
-  between = λ line run r has small size next most told m tame.
-      let event = more_deliveries most in
-      let w = (after_all told (begun (after (beginning run) run.entries))).world in
-      let now = map said w.fresh ++ asked next event ∷ history_of line run in
-      let d = delivering told most in
-      let so_far = closing.between open_lists_law line run r has small size next event (more_than_one most) told m (inl tame) in
-      let inside : (i : ℕ) → i < length w.initiators → i < run.initiators = (λ i b. subst (λ n. i < n) (count_between told (after (beginning run) run.entries) ∙ count_after run run.entries) b) in
-      unrefused_from run.start.disks now (length w.initiators)
-      (record {
-        wire = of_wire_there line run r next event told d m;
-        fair = (told_everywhere.between line run r has small size next most told m so_far).fair;
-        bars = λ i b. bars_between line run r next event told d m i (inside i b);
-        writes = λ i b. slotted.writes_between line run r next event told d m i (inside i b);
-        ours = ours_at run.start.disks now w (holding_everywhere.between line run r has small size next most told m);
-        waited = from_between IsTame tame_before Nothing IsPlace AllWaited no_ground under waited_walk first_waited line run r has small size next event (more_than_one most) told m so_far tame;
-      })
-      tame [] now refl;
-}
-  where
-    under : UnderFrom (λ start. Where IsTame (IsPlace start))
-    under = record {
-      after_lines = λ line run r has small size so_far tame.
-          (asked_in_ground run.start.disks _ _ ((kit_everywhere short_law open_lists_law).after_lines line run r has small size so_far).ground, accepts.after_lines line run r has small size tame);
-      between = λ line run r has small size next most told m so_far tame.
-          (asked_in_ground run.start.disks _ _ ((kit_everywhere short_law open_lists_law).between line run r has small size next most told m so_far).ground, accepts.between line run r has small size next most told m tame);
-    }
+module _ (While : List Moment → Type 0) (back : (later past : List Moment) → While (later ++ past) → While past) (accepts : AlwaysWhere While AreAccepted) where
+  abbrev Plain : List Moment → Type 0
+  Plain past = IsTame past × While past
+
+  plain_before : (later past : List Moment) → Plain (later ++ past) → Plain past
+  plain_before later past p = (tame_before later past p.0, back later past p.1)
+
+  under : UnderFrom (λ start. Where Plain (IsPlace start))
+  under = record {
+    after_lines = λ line run r has small size so_far p.
+        (asked_in_ground run.start.disks _ _ ((kit_everywhere short_law open_lists_law).after_lines line run r has small size so_far).ground, accepts.after_lines line run r has small size p.1 p.0);
+    between = λ line run r has small size next most told m so_far p.
+        (asked_in_ground run.start.disks _ _ ((kit_everywhere short_law open_lists_law).between line run r has small size next most told m so_far).ground, accepts.between line run r has small size next most told m p.1 p.0);
+  }
+
+  pub accepted_where : AlwaysWhere While NoneRefused
+  accepted_where = record {
+    after_lines = λ line run r has small size so tame.
+        let now = history_of line run in
+        let w = (after (beginning run) run.entries).world in
+        let so_far = closing.before open_lists_law line run r has small size (inl tame) in
+        let inside : (i : ℕ) → i < length w.initiators → i < run.initiators = (λ i b. subst (λ n. i < n) (count_after run run.entries) b) in
+        unrefused_from run.start.disks now (length w.initiators)
+        (record {
+          wire = of_wire line run r;
+          fair = (told_everywhere.after_lines line run r has small size so_far).fair;
+          bars = λ i b. bars_of line run r i (inside i b);
+          writes = λ i b. slotted.writes_of line run r i (inside i b);
+          ours = ours_at run.start.disks now w (holding_everywhere.after_lines line run r has small size);
+          waited = from_after Plain plain_before Nothing IsPlace AllWaited no_ground under waited_walk first_waited line run r has small size so_far (tame, so);
+        })
+        tame [] now refl;
+    between = λ line run r has small size next most told m so tame.
+        let event = more_deliveries most in
+        let w = (after_all told (begun (after (beginning run) run.entries))).world in
+        let now = map said w.fresh ++ asked next event ∷ history_of line run in
+        let d = delivering told most in
+        let so_far = closing.between open_lists_law line run r has small size next event (more_than_one most) told m (inl tame) in
+        let inside : (i : ℕ) → i < length w.initiators → i < run.initiators = (λ i b. subst (λ n. i < n) (count_between told (after (beginning run) run.entries) ∙ count_after run run.entries) b) in
+        unrefused_from run.start.disks now (length w.initiators)
+        (record {
+          wire = of_wire_there line run r next event told d m;
+          fair = (told_everywhere.between line run r has small size next most told m so_far).fair;
+          bars = λ i b. bars_between line run r next event told d m i (inside i b);
+          writes = λ i b. slotted.writes_between line run r next event told d m i (inside i b);
+          ours = ours_at run.start.disks now w (holding_everywhere.between line run r has small size next most told m);
+          waited = from_between Plain plain_before Nothing IsPlace AllWaited no_ground under waited_walk first_waited line run r has small size next event (more_than_one most) told m so_far (tame, so);
+        })
+        tame [] now refl;
+  }

@@ -1,12 +1,12 @@
 -- What a note by which a packet is judged makes of how often packets were judged, and of the request that is to be answered; and a write that comes again is ignored as such.
-use Rattle.sbp_world.proofs.Words.Std.{◌≡◌, ◌∙◌, refl, sym, ap, ◌+◌, ◌&&◌, not, ℕ, Bool, true, false, Option, Some, None, false≢true, same_Some, upd}
-use Rattle.sbp_world.proofs.Words.Wire.{Cause, Event, Held, Kind, Owed, Part, Sending, Terms, Transaction, arrives, asked_by, asked_in, begins, begun_by, between, by_again, by_generation, by_grammar, closes, closes_if, free, gets, gets_as, gives, ignores, ignores_that, is_news, is_repeated, is_response, is_same_kind, is_served, is_to, judges, judges_if, may_get, may_ignore_by, opened, part_of, pays, puts, rcode_of, request, response, rests, row_of, sends, times_out, waits}
-use Rattle.bus_transactions.proofs.Facts.{both}
+use Rattle.sbp_world.proofs.Words.Std.{◌≡◌, ◌∙◌, refl, sym, ap, ◌+◌, ℕ, Bool, true, false, Option, Some, None, false≢true, same_Some, upd}
+use Rattle.sbp_world.proofs.Words.Wire.{Cause, Event, Held, Kind, Owed, Part, Sending, Terms, Transaction, arrives, asked_by, asked_in, begins, begun_by, between, by_again, by_generation, by_grammar, closes, closes_if, free, gets, gets_as, ignores, ignores_that, is_news, is_repeated, is_response, is_same_kind, is_served, is_to, judges, judges_if, may_get, may_ignore_by, opened, part_of, pays, puts, rcode_of, request, response, rests, row_of, sends, times_out, waits}
 use Rattle.bus_transactions.specs.Judging.{facts_of}
 use Rattle.sbp_journal.specs.Transactions.{no_packet}
 use Rattle.sbp_journal.specs.declared.cause.Cause.TheVariants as causes
 use Rattle.sbp_journal.specs.declared.event.Event.TheVariants as events
 use Rattle.sbp_world.proofs.Common.{none_is}
+use Rattle.sbp_world.proofs.Completing.ManagedTerms.{gives_judged}
 
 -- ---- what a note by which a packet is judged makes of that
 -- the packet is to be answered then
@@ -148,10 +148,6 @@ begins_judged : (u : Option Transaction) (s : ℕ) (packet : Sending) (t : Terms
 begins_judged None s packet t = refl
 begins_judged (Some u) s packet t = refl
 
-gives_judged : (u : Option Transaction) (rcode : ℕ) (t : Terms) → (gives u rcode t).judged ≡ t.judged
-gives_judged None rcode t = refl
-gives_judged (Some u) rcode t = refl
-
 pays_judged : (owed : Option Owed) (sent : ℕ → Option Sending) (s : ℕ) (packet : Sending) (t : Terms) → (pays owed sent s packet t).judged ≡ t.judged
 pays_judged None sent s packet t = refl
 pays_judged (Some owed) sent s packet t = gives_judged (asked_in (sent owed.serial)) (rcode_of packet.bytes) t
@@ -159,6 +155,3 @@ pays_judged (Some owed) sent s packet t = gives_judged (asked_in (sent owed.seri
 pub sends_judged : (s : ℕ) (packet : Sending) (t : Terms) → (sends s packet t).judged ≡ t.judged
 sends_judged s packet t =
     pays_judged t.owes t.sent s packet (begins (begun_by packet) s packet (puts (begun_by packet) s packet t)) ∙ begins_judged (begun_by packet) s packet (puts (begun_by packet) s packet t)
-
-pub both_so : (injects : ℕ → Bool) (u : Transaction) → injects u.requester ≡ false → injects u.responder ≡ false → both injects u ≡ true
-both_so injects u e f = ap (λ b. not b && not (injects u.responder)) e ∙ ap not f

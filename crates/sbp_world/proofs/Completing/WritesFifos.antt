@@ -7,7 +7,8 @@ use Rattle.sbp_world.proofs.Words.World.{IsAccessFor, IsOpened, Office, WorldSta
 use Rattle.command_agent.specs.declared.phase.Phase.TheVariants as phases
 use Rattle.sbp_initiator.specs.States.{status_in}
 use Rattle.sbp_world.specs.Agents.Alike.{answers}
-use Rattle.sbp_world.specs.Completing.Writes.{AreFifosOpen, AreReadable, AreStatusesAccepted, FifosOpenLaw}
+use Rattle.sbp_world.specs.Completing.Labels.{AlwaysFrom, AlwaysWhere}
+use Rattle.sbp_world.specs.Completing.Writes.{AreFifosOpen, AreReadable, AreStatusesAccepted}
 use Rattle.sbp_world.proofs.Agents.Management.Holding.{Holding}
 use Rattle.sbp_world.proofs.Agents.Management.Offices.{over_keeps}
 use Rattle.sbp_world.proofs.Agents.Management.Still.{hist}
@@ -42,7 +43,7 @@ status_of phases.Reset m e s fifo access a = absurd (false≢true s)
 status_of phases.Suspended m e s fifo access a = absurd (false≢true s)
 status_of phases.Dead m e s fifo access a = absurd (false≢true s)
 
-never : (a b : Bool) → b ≡ false → a && b ≡ false
+pub never : (a b : Bool) → b ≡ false → a && b ≡ false
 never true b e = e
 never false b e = refl
 
@@ -88,11 +89,11 @@ Accepts start past w = AreFifosOpen start past w → AreReadable start past w �
 accepts : EveryPlace Accepts
 accepts = by_places main_slots.Kit Accepts (λ units ready has start past lines w h kit fifos readable. are_accepted units ready has start w h kit fifos readable) (kit_everywhere short_law open_lists_law)
 
-pub fifos_open_law : FifosOpenLaw
-fifos_open_law fifos readable = record {
-  after_lines = λ line run r has small size tame.
-      accepts.after_lines line run r has small size (closing.before open_lists_law line run r has small size (inl tame)) (fifos.after_lines line run r has small size) (readable.after_lines line run r has small size) tame;
-  between = λ line run r has small size next most told m tame.
+pub fifos_open_where : (While : List Moment → Type 0) → AlwaysWhere While AreFifosOpen → AlwaysFrom AreReadable → AlwaysWhere While AreStatusesAccepted
+fifos_open_where While fifos readable = record {
+  after_lines = λ line run r has small size so tame.
+      accepts.after_lines line run r has small size (closing.before open_lists_law line run r has small size (inl tame)) (fifos.after_lines line run r has small size so) (readable.after_lines line run r has small size) tame;
+  between = λ line run r has small size next most told m so tame.
       accepts.between line run r has small size next most told m (closing.between open_lists_law line run r has small size next (more_deliveries most) (more_than_one most) told m (inl tame))
-      (fifos.between line run r has small size next most told m) (readable.between line run r has small size next most told m) tame;
+      (fifos.between line run r has small size next most told m so) (readable.between line run r has small size next most told m) tame;
 }

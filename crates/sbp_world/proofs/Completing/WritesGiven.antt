@@ -9,7 +9,7 @@ use Rattle.bus_transactions.specs.Judging.{facts_of}
 use Rattle.sbp_journal.specs.declared.cause.Cause.TheVariants as causes
 use Rattle.sbp_journal.specs.declared.note.Note.TheVariants as notes
 use Rattle.sbp_world.proofs.Common.{moment_joined, none_is}
-use Rattle.sbp_world.proofs.Completing.WritesEffects.{Effect, IsOwedNow, MayJudge, again_row, both_so, comes_again, gets_effect, keeps, late_judged, opened_judged, owes_it, sends_judged, that_effect}
+use Rattle.sbp_world.proofs.Completing.WritesEffects.{Effect, IsOwedNow, MayJudge, again_row, comes_again, gets_effect, keeps, late_judged, opened_judged, owes_it, sends_judged, that_effect}
 use Rattle.sbp_world.proofs.Completing.WritesJudged.{AllJudged, IsJudgedAt, JudgedAt}
 use Rattle.sbp_world.proofs.Hosts.Remaining.{gets_same, ignores_that_same, opened_same, remains, times_out_same}
 use Rattle.sbp_world.proofs.Hosts.SentMoments.{count_now, sent_below, sent_now, serials_from}
@@ -19,6 +19,7 @@ use Rattle.sbp_world.proofs.Lists.Calm.{injects_before}
 use Rattle.sbp_world.proofs.Lists.ManageSends.{by_given, given_behind, opened_terms, sent_given, sent_other, sent_terms}
 use Rattle.sbp_world.proofs.Lists.ManageTerms.{Rests, got_rests, ignored_rests, timed_owes, timed_rests}
 use Rattle.sbp_world.proofs.Lists.StatusKnown.{each_from}
+use Rattle.sbp_world.proofs.Completing.RestServed.{both_made}
 
 module _ (all : List Moment) (r : ℕ) (q : Sending) (u : Transaction) (counts : SerialsCount all) (sent_all : (terms all).sent r ≡ Some q) (begun : begun_by q ≡ Some u) (writes : is_write q.bytes ≡ true) where
   asked_q : asked_by q ≡ Some u
@@ -140,7 +141,7 @@ module _ (all : List Moment) (r : ℕ) (q : Sending) (u : Transaction) (counts :
             let f = facts_of t q in
             let m : may_ignore_by (row_of (facts_of t q)) causes.Again ≡ true = subst (MayJudge t s) g may q (ap t.sent e ∙ there) in
             let l = was_last (again_row f.is_current f.is_for_node f.is_response f.is_awaited f.is_repeated m) in
-            false≢true (sym ((known.facts.tie u).is_new (both_so t.injects u asking answering) (ap t.judged is ∙ z) q.bytes last_is writes) ∙ l)
+            false≢true (sym ((known.facts.tie u).is_new (both_made t.injects u asking answering) (ap t.judged is ∙ z) q.bytes last_is writes) ∙ l)
 
     by_unjudged : t.judged r ≡ 0 → Unowed past → Effect t v s cause → Stage now
     by_unjudged z n (keeps j o) = unjudged (ap (λ (f : ℕ → ℕ). f r) j ∙ z) (λ w e. n w (sym o ∙ e))

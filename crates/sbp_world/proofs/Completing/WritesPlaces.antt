@@ -1,5 +1,5 @@
 -- The response to the main transaction of an agent answers complete what it asked for, at each place of every run in which no initiator injected packets, if none refused what an agent waits for.
-use Rattle.sbp_world.proofs.Words.Std.{◌≡◌, ◌∙◌, refl, sym, ap, subst, inl, ◌<◌, ◌==◌, arith, ℕ, suc, Bool, true, false, cond, List, ◌∷◌, ◌++◌, length, map, Option, Some, None, Ok, Err, nat_tests, same_Some, true≢false}
+use Rattle.sbp_world.proofs.Words.Std.{◌≡◌, ◌∙◌, refl, sym, ap, subst, inl, ◌<◌, ◌==◌, arith, ℕ, suc, Bool, true, false, cond, List, ◌∷◌, ◌++◌, length, map, Some, Ok, Err, nat_tests, same_Some, true≢false}
 use Rattle.sbp_world.proofs.Words.Wire.{Access, Moment, Packet, Sending, Sent, as_sending, asked, judging_step, said, terms}
 use Rattle.sbp_world.proofs.Words.Target.{Disk, Main, answer_in}
 use Rattle.sbp_world.proofs.Words.Initiator.{Answer, FailCause, payload_of}
@@ -11,13 +11,13 @@ use Rattle.orb_layout.specs.declared.ask.FailCause.TheVariants as causes
 use Rattle.sbp_laws.specs.Packets as laws
 use Rattle.sbp_target.proofs.Histories.Found.{IsFound, IsRead, found as found_as}
 use Rattle.sbp_world.specs.Completing.Answers.{BringsAll, CompleteAsGot}
-use Rattle.sbp_world.specs.Completing.Deaths.{IsAnswered, IsWhole, MainAnswered}
-use Rattle.sbp_world.specs.Completing.Writes.{AnsweredThereLaw, UnrefusedAt}
+use Rattle.sbp_world.specs.Completing.Deaths.{IsAnswered, IsWhole, MainAnswered, MainAnsweredThere}
+use Rattle.sbp_world.specs.Completing.Labels.{AlwaysWhere}
+use Rattle.sbp_world.specs.Completing.Writes.{NoneRefused, UnrefusedAt}
 use Rattle.sbp_world.specs.Counting.Brings.{IsMainReply}
 use Rattle.sbp_world.proofs.Agents.Management.Holding.{Holding, was_sent}
 use Rattle.sbp_world.proofs.Agents.Management.Still.{hist}
-use Rattle.sbp_world.proofs.Common.{none_is}
-use Rattle.sbp_world.proofs.Completing.AnswersGots.{IsSentFor, sent_for}
+use Rattle.sbp_world.proofs.Completing.AnswersGots.{IsPacket, packet_from, IsSentFor, sent_for}
 use Rattle.sbp_world.proofs.Completing.AnswersRuns.{complete_as_got_law}
 use Rattle.sbp_world.proofs.Completing.LabelsPlaces.{IsHolding, holding_everywhere}
 use Rattle.sbp_world.proofs.Completing.WritesAnswers.{answered_is}
@@ -60,14 +60,6 @@ whole access answer b cause e =
     let same : (length b.bytes == access.count) ≡ true = grind (arith, nat_tests, size) in
     not_err b.bytes cause (ap (λ b'. cond b' (Ok b.bytes) (Err causes.Grammar)) (sym same) ∙ (ap (λ a. payload_of a access.count) (sym b.is) ∙ e))
 
-record IsPacket (so : Option Sending) : Type 0 where
-  packet : Sending
-  is : so ≡ Some packet
-
-packet_by : (so : Option Sending) (from : ℕ) → sender_in so ≡ Some from → IsPacket so
-packet_by None from e = none_is from e
-packet_by (Some packet) from e = record { packet = packet; is = refl }
-
 -- ---- a place
 module _ (units ready : ℕ) (has : 0 < units) (start : List Disk) {past : List Moment} {lines : ℕ} (w : WorldState) (h : Holding units ready start past lines w) (s : Site start past w) (tame : IsTame (hist past w)) (k : Known start (hist past w) w) where
   abbrev all : List Moment
@@ -90,7 +82,7 @@ module _ (units ready : ℕ) (has : 0 < units) (start : List Disk) {past : List 
     access_is = same_Some for_it.access access (sym for_it.is ∙ asks)
 
     request : IsPacket ((terms all).sent serial)
-    request = packet_by ((terms all).sent serial) 0 for_it.from
+    request = packet_from ((terms all).sent serial) 0 for_it.from
 
     abbrev q : Sending
     q = request.packet
@@ -165,9 +157,9 @@ heard_by start now wire asked_so complete gots unrefused = record {
   unrefused = unrefused;
 }
 
-pub answered_there_law : AnsweredThereLaw
-answered_there_law unrefused = record {
-  after_lines = λ line run r has small size tame legal l few.
+pub answered_there_where : (While : List Moment → Type 0) → AlwaysWhere While NoneRefused → AlwaysWhere While MainAnsweredThere
+answered_there_where While unrefused = record {
+  after_lines = λ line run r has small size so tame legal l few.
       let now = history_of line run in
       let w = (after (beginning run) run.entries).world in
       let so_far = closing.before open_lists_law line run r has small size (inl tame) in
@@ -175,13 +167,13 @@ answered_there_law unrefused = record {
       let inside : (i : ℕ) → i < length w.initiators → i < run.initiators = (λ i b. subst (λ n. i < n) (count_after run run.entries) b) in
       place_answered run.start.disks now w (holding_everywhere.after_lines line run r has small size) kit tame
       (λ judged. record {
-        heard_so = heard_by run.start.disks now (of_wire line run r) kit.ground.asked_so (complete_as_got_law.after_lines line run r has small size (inl tame)) (writes_of line run r) (unrefused.after_lines line run r has small size tame);
+        heard_so = heard_by run.start.disks now (of_wire line run r) kit.ground.asked_so (complete_as_got_law.after_lines line run r has small size (inl tame)) (writes_of line run r) (unrefused.after_lines line run r has small size so tame);
         judged = judged;
         told = told_everywhere.after_lines line run r has small size so_far;
         stood_at = λ i b. stood line run r i (inside i b);
         none = λ i b. carries_law.none_injected line run r i (inside i b);
       });
-  between = λ line run r has small size next most told m tame legal l few.
+  between = λ line run r has small size next most told m so tame legal l few.
       let event = more_deliveries most in
       let w = (after_all told (begun (after (beginning run) run.entries))).world in
       let now = map said w.fresh ++ asked next event ∷ history_of line run in
@@ -192,7 +184,7 @@ answered_there_law unrefused = record {
       place_answered run.start.disks now w (holding_everywhere.between line run r has small size next most told m) kit tame
       (λ judged. record {
         heard_so = heard_by run.start.disks now (of_wire_there line run r next event told d m) kit.ground.asked_so (complete_as_got_law.between line run r has small size next most told m (inl tame)) (writes_between line run r next event told d m)
-            (unrefused.between line run r has small size next most told m tame);
+            (unrefused.between line run r has small size next most told m so tame);
         judged = judged;
         told = told_everywhere.between line run r has small size next most told m so_far;
         stood_at = λ i b. stood_between line run r next event told d m i (inside i b);

@@ -13,7 +13,6 @@ use Rattle.sbp_journal.specs.declared.cause.Judged.TheVariants as judgements
 use Rattle.sbp_journal.specs.declared.event.Event.TheVariants as events
 use Rattle.sbp_journal.specs.declared.note.Note.TheVariants as notes
 use Rattle.sbp_journal.specs.declared.side.Side.TheVariants as sides
-use Rattle.sbp_journal.specs.Transactions.{is_to, is_to_by}
 use Rattle.sbp_laws.specs.JudgementLaw.{is_out}
 use Rattle.sbp_session.specs.declared.seat.Seat.TheVariants as seats
 use Rattle.sbp_world.specs.Completing.Writes.{is_refused}
@@ -25,7 +24,7 @@ use Rattle.sbp_world.proofs.Hosts.Carried.{of_runs}
 use Rattle.sbp_world.proofs.Hosts.Carries.{Carries, Does, Nothing, Tells, by_more}
 use Rattle.sbp_world.proofs.Hosts.Hosted.{Cored, cored_carried, first_cored}
 use Rattle.sbp_world.proofs.Hosts.Shown.{IsElsewhere, IsHeard, IsShown}
-use Rattle.sbp_world.proofs.Hosts.SlotIgnored.{not_there, some_bytes}
+use Rattle.sbp_world.proofs.Hosts.SlotIgnored.{not_there, some_bytes, grammar_row, current_row, goes_to}
 use Rattle.sbp_world.proofs.Wire.Effects.{AreEffectSides, IsEffectSide}
 use Rattle.sbp_world.proofs.Wire.OwnActs.{AreStepSides, IsStepSide, acts}
 use Rattle.sbp_world.proofs.Wire.OwnTells as own
@@ -93,18 +92,6 @@ access_barred access source s cause r of_it e = by (refused_row (f.to_initiator 
     by (of_closed g) = by_closed (closed_part (not access.is_lock && access.is_write) (is_closed (fifo_for access s)) g)
     by (of_read g) = by_none (unread (is_read (status_in access.payload)) (and_second f.is_status (not f.is_read) g))
 
-grammar_row : (c n r a e : Bool) → row_of (record { is_current = c; is_for_node = n; is_response = r; is_awaited = a; is_repeated = e }) ≡ by_grammar → (c ≡ true) × (n ≡ false)
-grammar_row false n r a e g = cc
-grammar_row true false r a e g = (refl, refl)
-grammar_row true true true false e g = cc
-grammar_row true true true true e g = cc
-grammar_row true true false a true g = cc
-grammar_row true true false a false g = cc
-
-current_row : (c n r a e : Bool) → row_of (record { is_current = c; is_for_node = n; is_response = r; is_awaited = a; is_repeated = e }) ≡ by_request → c ≡ true
-current_row false n r a e g = cc
-current_row true n r a e g = refl
-
 module _ (generation : ℕ) (bytes : List ℕ) (s : InitiatorState) (p : Packet) (read : reading bytes ≡ Ok p) (access : Access) (asks : access_of p ≡ Some access) (source : generation ≡ s.layer.generation → (header_in p).source ≡ s.target) (goes : generation ≡ s.layer.generation → (header_in p).destination ≡ s.layer.node) where
   of_row : (row : Row) → row_of (facts_of s.layer generation bytes) ≡ row → (cause : Cause) → is_refused cause ≡ true → note_by row (reading bytes) s ≡ judgements.Ignored cause → BarredBy s access
   of_row by_generation e cause r n = absurd (false≢true (ap is_refused (let same : causes.Generation ≡ cause = cc in same) ∙ r))
@@ -171,10 +158,6 @@ one_step side past i e h = h
 steps_bar : (told : List Side) (past : List Moment) (i : ℕ) → AreStepSides told → AllBarred past i → AllBarred (behind told past) i
 steps_bar [] past i e h = h
 steps_bar (side ∷ told) past i e h = steps_bar told (by_side side past) i e.1 (one_step side past i e.0 h)
-
-goes_to : (bytes : List ℕ) (p : Packet) (id : ℕ) → reading bytes ≡ Ok p → is_to bytes id ≡ true → (header_in p).destination ≡ id
-unfolding is_to
-goes_to bytes p id read e = let z : ((header_in p).destination == id) ≡ true = sym (ap (λ x. is_to_by x id) read) ∙ e in grind (arith, nat_tests)
 
 heard_bars : (ready : Bool) (serial generation : ℕ) (bytes : List ℕ) (past : List Moment) (i : ℕ) (s : InitiatorState) → Cored ready past i s → IsHeard past i serial generation bytes → IsShown past i s.target s.layer → AllBarred past i → AllBarred (said (judged_note serial (receive_step generation bytes empty_outbox s).0) ∷ past) i
 heard_bars ready serial generation bytes past i s c heard shown h = by_judged (receive_step generation bytes empty_outbox s).0 refl

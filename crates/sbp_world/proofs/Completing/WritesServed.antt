@@ -1,6 +1,6 @@
 -- Where an initiator got a write, the history goes on with the response to it: complete, where the run terms have it so.
-use Rattle.sbp_world.proofs.Words.Std.{arith, ◌≡◌, ◌∙◌, refl, sym, ap, subst, ◌<◌, ◌+◌, ◌*◌, ◌/◌, ◌%◌, ◌^◌, ℕ, suc, Bool, true, cond, List, [], ◌∷◌, ◌++◌, map, Option, Some, Result, Ok, Err, append_assoc, big_bytes, big_from-bytes, false≢true, same_Some}
-use Rattle.sbp_world.proofs.Words.Wire.{Access, Event, Header, Moment, Note, Packet, PacketFault, Sending, Terms, access_of, as_sending, asked, canon, lock, lock_response, part_of, rcode_of, read_block, read_block_response, read_quadlet, read_quadlet_response, reading, response_to, said, terms, three, write_block, write_quadlet, write_response}
+use Rattle.sbp_world.proofs.Words.Std.{arith, ◌≡◌, ◌∙◌, refl, sym, ap, subst, ◌<◌, ◌+◌, ◌*◌, ◌/◌, ◌%◌, ◌^◌, ℕ, suc, Bool, true, cond, List, [], ◌∷◌, ◌++◌, map, Option, Some, Ok, append_assoc, big_bytes, big_from-bytes, false≢true, same_Some}
+use Rattle.sbp_world.proofs.Words.Wire.{Access, Event, Header, Moment, Note, Packet, Sending, Terms, access_of, as_sending, asked, canon, lock, lock_response, part_of, rcode_of, read_block, read_block_response, read_quadlet, read_quadlet_response, reading, response_to, said, terms, three, write_block, write_quadlet, write_response}
 use Rattle.sbp_world.proofs.Words.Target.{Told}
 use Rattle.sbp_world.proofs.Words.Laws.{access_in, answer_packet, answers_to, host_reply, id_of, is_answered, packet_in, receiver_in, reply_in, reply_packet, spelled_by, turn}
 use Rattle.sbp_world.proofs.Words.World.{GetsRequest, IsDelivered, IsDelivering, IsRun, MayAll, Run, Scene, after, begun, beginning, delivered, front_of, history_of, initiator_at}
@@ -16,7 +16,7 @@ use Rattle.sbp_world.proofs.Hosts.AnsweringTold.{asks_part}
 use Rattle.sbp_world.proofs.Hosts.Between.{between, stands_there, there}
 use Rattle.sbp_world.proofs.Hosts.Deliveries.{GotsAre, GotsIn, Here, all_gots, map_in, run_gots, said_gots}
 use Rattle.sbp_world.proofs.Hosts.GotRequests.{request_got}
-use Rattle.sbp_world.proofs.Hosts.GotServed.{IsAsked}
+use Rattle.sbp_world.proofs.Hosts.GotServed.{IsAsked, spelled_ok}
 use Rattle.sbp_world.proofs.Hosts.Knows.{was_sent}
 
 -- ---- the rcode of a response to a write
@@ -92,10 +92,6 @@ module _ (past : List Moment) (i serial : ℕ) (q : Sending) (p : Packet) (acces
   }
 
 -- ---- in a history
-spelled_ok : (r : Result Packet PacketFault) (p : Packet) → spelled_by r ≡ Some p → r ≡ Ok p
-spelled_ok (Ok q) p e = let g : q ≡ p = cc in ap (λ x. Ok x) g
-spelled_ok (Err fault) p e = none_is p e
-
 -- the history goes on so, and is all in the end
 pub record GoesOn (all past : List Moment) (i serial : ℕ) (access : Access) : Type 0 where
   pub now : List Moment

@@ -8,7 +8,8 @@ use Rattle.sbp_world.proofs.Words.World.{GoesAlong, IsAccessFor, IsBufferOf, IsO
 use Rattle.command_agent.specs.declared.phase.Phase.TheVariants as phases
 use Rattle.command_agent.specs.declared.phase.ReadAhead.TheVariants as aheads
 use Rattle.sbp_world.specs.Completing.Answers.{WaitsOn}
-use Rattle.sbp_world.specs.Completing.Writes.{AreAccepted, AreStatusesAccepted, IsAccepted, StatusesAcceptedLaw}
+use Rattle.sbp_world.specs.Completing.Labels.{AlwaysWhere}
+use Rattle.sbp_world.specs.Completing.Writes.{AreAccepted, AreStatusesAccepted, IsAccepted}
 use Rattle.sbp_world.specs.Lists.DataWhole.{AreWhole}
 use Rattle.sbp_world.proofs.Agents.Management.Holding.{Holding}
 use Rattle.sbp_world.proofs.Agents.Management.Still.{hist}
@@ -162,11 +163,11 @@ accepts =
       between = λ line run r has small size next most told m so_far. record { lists = lists.between line run r has small size next most told m so_far; whole = whole_law.between line run r has small size next most told m so_far };
     })
 
-pub statuses_accepted_law : StatusesAcceptedLaw
-statuses_accepted_law statuses = record {
-  after_lines = λ line run r has small size tame.
-      accepts.after_lines line run r has small size (closing.before open_lists_law line run r has small size (inl tame)) tame (statuses.after_lines line run r has small size) tame;
-  between = λ line run r has small size next most told m tame.
+pub statuses_accepted_where : (While : List Moment → Type 0) → AlwaysWhere While AreStatusesAccepted → AlwaysWhere While AreAccepted
+statuses_accepted_where While statuses = record {
+  after_lines = λ line run r has small size so tame.
+      accepts.after_lines line run r has small size (closing.before open_lists_law line run r has small size (inl tame)) tame (statuses.after_lines line run r has small size so) tame;
+  between = λ line run r has small size next most told m so tame.
       accepts.between line run r has small size next most told m (closing.between open_lists_law line run r has small size next (more_deliveries most) (more_than_one most) told m (inl tame)) tame
-      (statuses.between line run r has small size next most told m) tame;
+      (statuses.between line run r has small size next most told m so) tame;
 }

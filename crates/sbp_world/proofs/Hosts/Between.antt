@@ -25,7 +25,7 @@ pub record OfWire (past : List Moment) : Type 0 where
   pub laws : IsOfWire past
   pub facts : Facts (terms past)
 
-of_world : {past : List Moment} (w : WorldState) (ms : List Moment) → Stands past w → history w past ≡ ms → OfWire ms
+pub of_world : {past : List Moment} (w : WorldState) (ms : List Moment) → Stands past w → history w past ≡ ms → OfWire ms
 of_world {past} w ms h e = record {
   laws = subst IsOfWire e (laws_of past w h);
   facts = subst (λ x. Facts (terms x)) (h.is.past_is ∙ e) (holds h.wire h.reached).facts;

@@ -22,7 +22,7 @@ pub record IsAsked (past : List Moment) (i serial : ℕ) (packet : Packet) (acce
   pub spelled : packet_in ((terms past).sent serial) ≡ Some packet
   pub asks : access_of packet ≡ Some access
 
-spelled_ok : (r : Result Packet PacketFault) (p : Packet) → spelled_by r ≡ Some p → r ≡ Ok p
+pub spelled_ok : (r : Result Packet PacketFault) (p : Packet) → spelled_by r ≡ Some p → r ≡ Ok p
 spelled_ok (Ok q) p e = let g : q ≡ p = cc in ap (λ x. Ok x) g
 spelled_ok (Err fault) p e = none_is p e
 

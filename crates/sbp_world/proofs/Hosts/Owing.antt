@@ -54,11 +54,11 @@ asking packet access e = asks_by packet access (reading packet.bytes) refl e
 
 -- ---- its rcode
 
-done_or : (b : Bool) (rcode : ℕ) (bytes : List ℕ) → cond b Done (Refused rcode) ≡ Payload bytes → ⊥
+pub done_or : (b : Bool) (rcode : ℕ) (bytes : List ℕ) → cond b Done (Refused rcode) ≡ Payload bytes → ⊥
 done_or true rcode bytes e = cc
 done_or false rcode bytes e = cc
 
-zero_by : (b : Bool) (rcode : ℕ) (given bytes : List ℕ) → (rcode == 0) ≡ b → cond b (Payload given) (Refused rcode) ≡ Payload bytes → rcode ≡ 0
+pub zero_by : (b : Bool) (rcode : ℕ) (given bytes : List ℕ) → (rcode == 0) ≡ b → cond b (Payload given) (Refused rcode) ≡ Payload bytes → rcode ≡ 0
 zero_by true rcode given bytes e f = grind (arith, nat_tests)
 zero_by false rcode given bytes e f = cc
 
@@ -76,7 +76,7 @@ complete_by bytes (lock_response header rcode extended payload) told s e = cc
 
 -- ---- a request that comes again
 
-row_again : (c n r a e : Bool) → may_ignore_by (row_of (record { is_current = c; is_for_node = n; is_response = r; is_awaited = a; is_repeated = e })) causes.Again ≡ true → e ≡ true
+pub row_again : (c n r a e : Bool) → may_ignore_by (row_of (record { is_current = c; is_for_node = n; is_response = r; is_awaited = a; is_repeated = e })) causes.Again ≡ true → e ≡ true
 row_again false n r a e f = cc
 row_again true false r a e f = cc
 row_again true true true false e f = cc

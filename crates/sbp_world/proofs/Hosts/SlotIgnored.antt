@@ -147,7 +147,7 @@ access_refused access source s cause of_it e = by (refused_row (f.to_initiator &
     by (of_read g) = status (and_true f.is_status (not f.is_read) g)
     by (of_awaited g) = status (and_true f.is_status (not f.is_awaited) g)
 
-grammar_row : (c n r a e : Bool) → row_of (record { is_current = c; is_for_node = n; is_response = r; is_awaited = a; is_repeated = e }) ≡ by_grammar → (c ≡ true) × (n ≡ false)
+pub grammar_row : (c n r a e : Bool) → row_of (record { is_current = c; is_for_node = n; is_response = r; is_awaited = a; is_repeated = e }) ≡ by_grammar → (c ≡ true) × (n ≡ false)
 grammar_row false n r a e g = cc
 grammar_row true false r a e g = (refl, refl)
 grammar_row true true true false e g = cc
@@ -155,7 +155,7 @@ grammar_row true true true true e g = cc
 grammar_row true true false a true g = cc
 grammar_row true true false a false g = cc
 
-current_row : (c n r a e : Bool) → row_of (record { is_current = c; is_for_node = n; is_response = r; is_awaited = a; is_repeated = e }) ≡ by_request → c ≡ true
+pub current_row : (c n r a e : Bool) → row_of (record { is_current = c; is_for_node = n; is_response = r; is_awaited = a; is_repeated = e }) ≡ by_request → c ≡ true
 current_row false n r a e g = cc
 current_row true n r a e g = refl
 
@@ -268,7 +268,7 @@ steps_writes (side ∷ told) past i e h = steps_writes told (by_side side past) 
 
 -- ---- a packet that is heard
 
-goes_to : (bytes : List ℕ) (p : Packet) (id : ℕ) → reading bytes ≡ Ok p → is_to bytes id ≡ true → (header_in p).destination ≡ id
+pub goes_to : (bytes : List ℕ) (p : Packet) (id : ℕ) → reading bytes ≡ Ok p → is_to bytes id ≡ true → (header_in p).destination ≡ id
 unfolding is_to
 goes_to bytes p id read e = let z : ((header_in p).destination == id) ≡ true = sym (ap (λ x. is_to_by x id) read) ∙ e in grind (arith, nat_tests)
 

@@ -18,7 +18,7 @@ use Rattle.sbp_world.proofs.Lists.Sites.{IsPrepared, Site, Waiting, named_prepar
 use Rattle.sbp_world.proofs.Lists.Slots.{IsFilled, comes}
 
 -- a request of an agent is of a block
-block_of : (ask : Ask) (is_status : Bool) (fifo : ℕ) (access : Access) → IsAccessFor ask is_status fifo access → access.is_block ≡ true
+pub block_of : (ask : Ask) (is_status : Bool) (fifo : ℕ) (access : Access) → IsAccessFor ask is_status fifo access → access.is_block ≡ true
 block_of (asks.Read offset size) s fifo access a = ap (λ (x : Access). x.is_block) a
 block_of (asks.Write offset size) s fifo access a = ap (λ (x : Access). x.is_block) a.0
 block_of asks.Nothing s fifo access a = absurd a

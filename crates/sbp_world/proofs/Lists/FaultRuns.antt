@@ -150,7 +150,7 @@ module _ (wild : ℕ → Bool) (i : ℕ) (own : wild i ≡ false) where
   each_alive [] a = tt
   each_alive (m ∷ past) a = (one_alive m past a.0, each_alive past a.1)
 
-grounds : Always Grounds
+pub grounds : Always Grounds
 grounds = grounds_law (ground_law opened_known.laws.pointers opened_known.laws.begun) joined_law
 
 module _ (short : ShortLaw) (one : OneUpLaw) where

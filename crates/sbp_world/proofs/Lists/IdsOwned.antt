@@ -31,7 +31,7 @@ judged_begins : (serial : ℕ) (judged : Judged) → BeginsTurn (said (judged_no
 judged_begins serial judgements.Got = tt
 judged_begins serial (judgements.Ignored cause) = tt
 
-ids_same : (event : Event) (t : Terms) → t.generation 0 ≤ t.bus → (k : ℕ) → id_for (opened event t) 0 k ≡ id_for t 0 k
+pub ids_same : (event : Event) (t : Terms) → t.generation 0 ≤ t.bus → (k : ℕ) → id_for (opened event t) 0 k ≡ id_for t 0 k
 ids_same (events.Reset physical) t aged k =
     let apart : nat_eq (t.generation 0) (t.bus + 1) ≡ false = grind (arith, nat_tests) in
     ap (λ b. cond b (ids_of physical) (t.ids (t.generation 0)) k) apart

@@ -113,7 +113,7 @@ module _ (start : List Disk) (past : List Moment) (counts : SerialsCount past) (
   from_target = sym (ap (λ (x : Sending). x.from) packet_is)
 
 -- so a status block that waits is of a generation that the target has seen
-seen_told : {past : List Moment} (w : WorldState) (stands : Stands past w) (start : List Disk) (i : ℕ) → i < length w.initiators → (contents : AreAsked start (hist past w)) (orb : ℕ) (bytes : List ℕ) → IsTold start (hist past w) i orb bytes → own_of w i ≤ zero_of w
+pub seen_told : {past : List Moment} (w : WorldState) (stands : Stands past w) (start : List Disk) (i : ℕ) → i < length w.initiators → (contents : AreAsked start (hist past w)) (orb : ℕ) (bytes : List ℕ) → IsTold start (hist past w) i orb bytes → own_of w i ≤ zero_of w
 seen_told {past} w stands start i inside contents orb bytes told =
     let t = told.telling in
     let from = from_target start (hist past w) (counts_at w stands) told.serial t.op (contents.each told.serial t.op t.is_for) t.packet t.sent in

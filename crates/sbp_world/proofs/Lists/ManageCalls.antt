@@ -196,7 +196,7 @@ module _ (node : NodeState) (p : Packet) (bytes : List ℕ) where
   unfolding request_step
   step_is b e = ap pick e
 
-  demand_is : (access : Access) → access_of p ≡ Some access → length node.rom ≤ 1024 → start_at access.offset ≡ management_agent → start_serves (start_at access.offset) access ≡ true → demand_of (length node.rom) p ≡ demands.Manage (offset_at access.payload 0)
+  pub demand_is : (access : Access) → access_of p ≡ Some access → length node.rom ≤ 1024 → start_at access.offset ≡ management_agent → start_serves (start_at access.offset) access ≡ true → demand_of (length node.rom) p ≡ demands.Manage (offset_at access.payload 0)
   demand_is access e rom at serves = same_some _ _ ((row_law p access e).serves (length node.rom) rom serves ∙ ap (λ s. asked_at s access) at)
 
 -- ---- a packet that comes

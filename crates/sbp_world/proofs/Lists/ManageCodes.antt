@@ -22,7 +22,7 @@ coded peer label tcode bytes rest small apart e = other_code bytes tcode (quad_t
 
 -- ---- a response
 
-rcode_three : (a b c : ℕ) → rcode_of (three a b c) ≡ b % 256 ^ 4 / 2 ^ 12 % 2 ^ 4
+pub rcode_three : (a b c : ℕ) → rcode_of (three a b c) ≡ b % 256 ^ 4 / 2 ^ 12 % 2 ^ 4
 unfolding rcode_of three
 rcode_three a b c = ap (λ n. n / 2 ^ 12 % 2 ^ 4) (big_from-bytes 4 b (big_bytes 4 c))
 

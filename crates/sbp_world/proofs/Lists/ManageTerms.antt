@@ -139,7 +139,7 @@ part_news (request label kind) s q t = judges_news (asked_by q) None s q t
 part_news (response label kind) s q t = closes_news (t.held (between q q.to q.from label)) (between q q.to q.from label) kind (rcode_of q.bytes) t
 part_news no_packet s q t = refl
 
-one_more : (s : ℕ) (f : ℕ → ℕ) → f s < upd f s (f s + 1) s
+pub one_more : (s : ℕ) (f : ℕ → ℕ) → f s < upd f s (f s + 1) s
 one_more s f = by (nat_eq s s) (grind (arith, nat_tests))
   where
     by : (b : Bool) → b ≡ true → f s < cond b (f s + 1) (f s)

@@ -51,7 +51,7 @@ plain (notes.TimedOut s) past e h = cc
 plain (notes.Seen node generation) past e h = cc
 plain _ past e h = (tt, h)
 
-none_due : (w : Wire) → Stands w → w.due ≡ None → (terms w.past).owes ≡ None
+pub none_due : (w : Wire) → Stands w → w.due ≡ None → (terms w.past).owes ≡ None
 none_due w s e = (settled w s e).due_is
 
 quiet_sending : (w : Wire) → Stands w → w.due ≡ None → (node : ℕ) → IsSending w.past (w.layer node).generation node

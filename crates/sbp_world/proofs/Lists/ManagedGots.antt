@@ -61,11 +61,11 @@ manages_it start past own e =
 abbrev pub NoData : ℕ → Type 0
 NoData at = (slot : ℕ) → data_slot (window_at at) ≡ Some slot → ⊥
 
-rom_high : window_at high_eui_at ≡ Some windows.Rom
+pub rom_high : window_at high_eui_at ≡ Some windows.Rom
 unfolding window_at
 rom_high = refl
 
-rom_low : window_at low_eui_at ≡ Some windows.Rom
+pub rom_low : window_at low_eui_at ≡ Some windows.Rom
 unfolding window_at
 rom_low = refl
 

@@ -64,7 +64,7 @@ from_if : (b : Bool) (packet : Sending) (label : ℕ) (u : Transaction) → begu
 from_if true packet label u e = none_is u e
 from_if false packet label u e = let same : between packet packet.from packet.to label ≡ u = cc in ap (λ (x : Transaction). x.requester) same
 
-awaited_from : (x : Terms) (u : Transaction) (kind : Kind) (serial : ℕ) (a : IsAwaited x u kind serial) → a.packet.from ≡ u.requester
+pub awaited_from : (x : Terms) (u : Transaction) (kind : Kind) (serial : ℕ) (a : IsAwaited x u kind serial) → a.packet.from ≡ u.requester
 unfolding begun_by asked_by
 awaited_from x u kind serial a = from_if a.packet.injected a.packet u.label u (sym (ap (λ (p : Part). begun_if a.packet.injected (asked_as p a.packet)) a.part) ∙ a.begun)
 

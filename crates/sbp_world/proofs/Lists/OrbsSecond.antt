@@ -1,7 +1,7 @@
--- Where an operation of the management writes its response: at the address that the ORB names which was decided on.
-use Rattle.sbp_world.proofs.Words.Std.{◌≡◌, ◌∙◌, refl, sym, ap, subst, ℕ, ◌*◌, ◌+◌, ◌^◌, ◌==◌, not, Bool, true, false, cond, List, [], ◌∷◌, length, Option, Some, None, Result, Ok, Err, is_none, position, unwrap_or, quad}
+-- Where an operation of the management writes its response, and how long this is: it goes to the address that the ORB names which was decided on, and has bytes, and no more than that ORB allows.
+use Rattle.sbp_world.proofs.Words.Std.{arith, nat_tests, ◌≡◌, ◌∙◌, refl, sym, ap, subst, ℕ, ◌*◌, ◌+◌, ◌^◌, ◌<◌, ◌≤◌, ◌==◌, take, length-take, not, Bool, true, false, cond, List, [], ◌∷◌, length, Option, Some, None, Result, Ok, Err, is_none, position, unwrap_or, quad}
 use Rattle.sbp_world.proofs.Words.Wire.{Access, Start, management_agent, no_start, register, rom_start, start_at, start_serves, Event, Note, FunctionWord, Moment, asked, said, Part, part_of, request, response, Terms}
-use Rattle.sbp_world.proofs.Words.Target.{Table, ManagerStep, Operation, decide, reads_eui, beside, cut_response, decide_step, decided_as, eui_step, high_eui_at, high_got, in_phase, low_eui_at, low_got, orb_got, reply_in, reply_to, response_written, start_step, start_with, status_block, status_step, status_written, telling, Disk}
+use Rattle.sbp_world.proofs.Words.Target.{Table, ManagerStep, response_bytes, Operation, decide, reads_eui, beside, cut_response, decide_step, decided_as, eui_step, high_eui_at, high_got, in_phase, low_eui_at, low_got, orb_got, reply_in, reply_to, response_written, start_step, start_with, status_block, status_step, status_written, telling, Disk}
 use Rattle.sbp_world.proofs.Words.Initiator.{Ask, Nothing, FailCause, ManagementOrb, management_orb, offset_at, Answer, Expired, Payload, payload_of, write_failure}
 use Rattle.sbp_world.proofs.Words.Laws.{access_at, access_in_bytes, answer_in, answered_at, id_for, packet_at, receiver_in, sender_in, Decided, Target, bytes_in, decided_by, decided_in, got_by, keep_decided, is_nothing, is_serial, is_write_access, key_by, known_at, over, laws_replied, request_got, reset_seen, sent_as, sent_for, taken_on, target_at, target_by, wants, wants_it, event_of}
 use Rattle.sbp_world.proofs.Words.World.{Office, by_managed, by_note, office_of, placed, placed_by, replied, started, started_by, stepped, IsOn}
@@ -22,7 +22,7 @@ use Rattle.sbp_world.proofs.Common.{untrue}
 
 abbrev pub IsSecond : Option Decided → Ask → List ℕ → Type 0
 IsSecond None ask out = ⊥
-IsSecond (Some on) ask out = ask ≡ asks.Write on.orb.second (length out)
+IsSecond (Some on) ask out = (ask ≡ asks.Write on.orb.second (length out)) × ((0 < length out) × (length out ≤ on.orb.response_length))
 
 abbrev pub AskOf : Phase → Option Decided → Ask → List ℕ → Type 0
 AskOf (phases.Response fifo) decided ask out = IsSecond decided ask out
@@ -41,9 +41,13 @@ sits_with : (own : Operation) (decided : Option Decided) (ask : Ask) (out : List
 sits_with own decided ask out a = ((λ op f n. let same : own ≡ op = cc in subst (λ (x : Operation). AskOf x.phase decided ask out) same a), (λ f. absurd (let no : Some own ≡ None = f in cc)))
 
 -- ---- a reply
-second_on : (brought : Option Decided) (orb : ManagementOrb) (out : List ℕ) → IsOn brought orb → IsSecond brought (asks.Write orb.second (length out)) out
-second_on None orb out on = absurd on
-second_on (Some on) orb out e = ap (λ (o : ManagementOrb). asks.Write o.second (length out)) (sym e)
+taken_short : (most : ℕ) (bytes : List ℕ) → length (take most bytes) ≤ most
+taken_short most bytes = simp length-take (omega arith)
+
+second_on : (brought : Option Decided) (orb : ManagementOrb) (out : List ℕ) → IsOn brought orb → (length out == 0) ≡ false → length out ≤ orb.response_length → IsSecond brought (asks.Write orb.second (length out)) out
+second_on None orb out on some short = absurd on
+second_on (Some on) orb out e some short =
+    (ap (λ (o : ManagementOrb). asks.Write o.second (length out)) (sym e), (grind (arith, nat_tests, some), subst (λ (o : ManagementOrb). length out ≤ o.response_length) (sym e) short))
 
 module _ (m : Machine) (t : Table) (keys : List (List ℕ)) (answer : Answer) (own : Operation) (had : Option Decided) (brought : Option Decided) where
   abbrev Left : ManagerStep × (Machine × Table) → Type 0
@@ -53,13 +57,13 @@ module _ (m : Machine) (t : Table) (keys : List (List ℕ)) (answer : Answer) (o
   pick_left true x y h k = h
   pick_left false x y h k = k
 
-  responds : (begun : Machine) (orb : ManagementOrb) (outcome : Outcome) (table : Table) (b : Bool) → IsOn brought orb → (let s = cond b (status_step begun own orb.fifo outcome.status) (quiet (asks.Write orb.second (length begun.outgoing)), in_phase begun own (phases.Response orb.fifo)) in Left (telling orb outcome s.0, (s.1, table)))
-  responds begun orb outcome table true on = sits_with (record own { phase = phases.Status }) brought (asks.Write orb.fifo 8) (status_block own.orb outcome.status) tt
-  responds begun orb outcome table false on = sits_with (record own { phase = phases.Response orb.fifo }) brought (asks.Write orb.second (length begun.outgoing)) begun.outgoing (second_on brought orb begun.outgoing on)
+  responds : (begun : Machine) (orb : ManagementOrb) (outcome : Outcome) (table : Table) (b : Bool) → (length begun.outgoing == 0) ≡ b → length begun.outgoing ≤ orb.response_length → IsOn brought orb → (let s = cond b (status_step begun own orb.fifo outcome.status) (quiet (asks.Write orb.second (length begun.outgoing)), in_phase begun own (phases.Response orb.fifo)) in Left (telling orb outcome s.0, (s.1, table)))
+  responds begun orb outcome table true e short on = sits_with (record own { phase = phases.Status }) brought (asks.Write orb.fifo 8) (status_block own.orb outcome.status) tt
+  responds begun orb outcome table false e short on = sits_with (record own { phase = phases.Response orb.fifo }) brought (asks.Write orb.second (length begun.outgoing)) begun.outgoing (second_on brought orb begun.outgoing on e short)
 
   decided_left : (orb : ManagementOrb) (x : Outcome × Table) → IsOn brought orb → Left (decided_as x m own orb)
   decided_left orb (outcome, table) on =
-      let begun = record m { outgoing = cut_response orb outcome table } in responds begun orb outcome table (length begun.outgoing == 0) on
+      let begun = record m { outgoing = cut_response orb outcome table } in responds begun orb outcome table (length begun.outgoing == 0) refl (taken_short orb.response_length (response_bytes outcome.response table.places)) on
 
   decides : (orb : ManagementOrb) (eui : ℕ) → IsOn brought orb → Left (decide_step m own orb eui t keys)
   unfolding decide_step

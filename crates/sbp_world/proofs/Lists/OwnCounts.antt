@@ -151,6 +151,11 @@ module _ (line : ℕ) (run : Run) (q : IsRun run) (i : ℕ) (b : i < run.initiat
       let h = of_runs (Counted run.ready) (counted_carried run.ready) line run (λ entries few short all fit j c. tt) (λ j c. first_counted line j run.initiators run.ready c) q i b in
       h.kept (few_of (initiator_at start.world i) h.cored.own.called (sound.sound.nodes.own.counts i inside_start))
 
+  pub logins_after : (host_at (history_of line run) i).logins < 2 ^ 32
+  logins_after =
+      let h = of_runs (Counted run.ready) (counted_carried run.ready) line run (λ entries few short all fit j c. tt) (λ j c. first_counted line j run.initiators run.ready c) q i b in
+      few_by _ _ (ap (λ (c : Core). c.logins) h.cored.core) (few_of (initiator_at start.world i) h.cored.own.called (sound.sound.nodes.own.counts i inside_start))
+
   module _ (next : ℕ) (told : List (Option Told)) (m : MayAll told (begun start)) where
     counts : (event : Event) → is_reset event ≡ false → ((ms : List Moment) → (terms (asked next event ∷ ms)).repeats ≡ false) → (initiator_at (after_all told (begun start)).world i).counts.acts ≤ length run.entries
     counts event e repeats =
@@ -165,3 +170,8 @@ module _ (line : ℕ) (run : Run) (q : IsRun run) (i : ℕ) (b : i < run.initiat
     few_between most =
         let h = between_runs (Counted run.ready) (counted_carried run.ready) line run (λ entries few short all fit j c. tt) (λ j c. first_counted line j run.initiators run.ready c) q next most told m i b in
         h.kept (few_of (initiator_at (after_all told (begun start)).world i) h.cored.own.called (counts_more most))
+
+    pub logins_between : (most : Option ℕ) → (host_at (map said (after_all told (begun start)).world.fresh ++ asked next (more_deliveries most) ∷ history_of line run) i).logins < 2 ^ 32
+    logins_between most =
+        let h = between_runs (Counted run.ready) (counted_carried run.ready) line run (λ entries few short all fit j c. tt) (λ j c. first_counted line j run.initiators run.ready c) q next most told m i b in
+        few_by _ _ (ap (λ (c : Core). c.logins) h.cored.core) (few_of (initiator_at (after_all told (begun start)).world i) h.cored.own.called (counts_more most))

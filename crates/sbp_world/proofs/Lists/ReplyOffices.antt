@@ -111,11 +111,11 @@ pub data Opens (start : List Disk) (i : ℕ) (base : List Moment) (note : Note) 
   answered : (own : ℕ) → (target_at start base).manages ≡ Some own → ((op : Operation) → (target_at start (said note ∷ base)).manager.operation ≡ Some op → GoesOn (target_at start base).manager.operation op) → ((asking : Sending) → (terms base).sent own ≡ Some asking → asking.to ≡ suc i → (l : ℕ) → part_of asking.bytes ≡ request l writing → 0 < (terms base).news own) → Opens start i base note
   begun : (target_at start base).manager.operation ≡ None → Opens start i base note
 
-start_same : (m : Machine) (source orb : ℕ) (o : Office) (operation : Option Operation) → m.operation ≡ operation → (started_by (manager.start_with operation m source orb) o ≡ o) ⊎ (m.operation ≡ None)
+pub start_same : (m : Machine) (source orb : ℕ) (o : Office) (operation : Option Operation) → m.operation ≡ operation → (started_by (manager.start_with operation m source orb) o ≡ o) ⊎ (m.operation ≡ None)
 start_same m source orb o None e = inr e
 start_same m source orb o (Some op) e = inl refl
 
-starts_same : (source orb : ℕ) (o : Office) → (started source orb o ≡ o) ⊎ (o.manager.operation ≡ None)
+pub starts_same : (source orb : ℕ) (o : Office) → (started source orb o ≡ o) ⊎ (o.manager.operation ≡ None)
 unfolding manager.start_step
 starts_same source orb o = start_same o.manager source orb o o.manager.operation refl
 

@@ -1,6 +1,6 @@
 -- The response that the target's management waits to have written goes where the ORB in the place of its initiator's operation names, and is what the management has
--- to write.
-use Rattle.sbp_world.proofs.Words.Std.{arith, ◌≡◌, ◌∙◌, refl, sym, ap, subst, ℕ, zero, ◌≤◌, nat_le, Bool, true, false, cond, List, ◌∷◌, ◌++◌, length, Option, Some, None, none-some, same_Some}
+-- to write; it has bytes, and no more than that ORB allows.
+use Rattle.sbp_world.proofs.Words.Std.{arith, ◌≡◌, ◌∙◌, refl, sym, ap, subst, ℕ, zero, ◌<◌, ◌≤◌, nat_le, Bool, true, false, cond, List, ◌∷◌, ◌++◌, length, Option, Some, None, none-some, same_Some}
 use Rattle.sbp_world.proofs.Words.Wire.{largest, SerialsCount, Body, block_write, Moment, said, terms}
 use Rattle.sbp_world.proofs.Words.Target.{Operation, Disk, manager_body}
 use Rattle.sbp_world.proofs.Words.Initiator.{Ask, ManagementOrb}
@@ -23,7 +23,7 @@ written true offset out body e =
     ap access_for (sym is)
 written false offset out body e = absurd (none-some body e)
 
-some_ask : (ask : Ask) (out : List ℕ) (body : Body) → manager_body ask out ≡ Some body → is_nothing ask ≡ false
+pub some_ask : (ask : Ask) (out : List ℕ) (body : Body) → manager_body ask out ≡ Some body → is_nothing ask ≡ false
 some_ask (asks.Read offset len) out body e = refl
 some_ask (asks.Write offset len) out body e = refl
 some_ask asks.Nothing out body e = absurd (none-some body e)
@@ -31,8 +31,12 @@ some_ask asks.Nothing out body e = absurd (none-some body e)
 goes : (decided : Option Decided) (ask : Ask) (out : List ℕ) (body : Body) (orb : ManagementOrb) → IsSecond decided ask out → IsOn decided orb → manager_body ask out ≡ Some body → access_for body ≡ write_access orb.second out
 goes None ask out body orb s on e = absurd s
 goes (Some own) ask out body orb s on e =
-    let f : cond (nat_le (length out) largest) (Some (block_write own.orb.second out)) None ≡ Some body = sym (ap (λ a. manager_body a out) s) ∙ e in
+    let f : cond (nat_le (length out) largest) (Some (block_write own.orb.second out)) None ≡ Some body = sym (ap (λ a. manager_body a out) s.0) ∙ e in
     written (nat_le (length out) largest) own.orb.second out body f ∙ ap (λ (o : ManagementOrb). write_access o.second out) on
+
+long_by : (decided : Option Decided) (ask : Ask) (out : List ℕ) (orb : ManagementOrb) → IsSecond decided ask out → IsOn decided orb → (0 < length out) × (length out ≤ orb.response_length)
+long_by None ask out orb s on = absurd s
+long_by (Some own) ask out orb s on = (s.1.0, subst (λ (o : ManagementOrb). length out ≤ o.response_length) on s.1.1)
 
 module _ (start : List Disk) (past : List Moment) (counts : SerialsCount past) (are : AreAsked start past) (op : Operation) (fifo r : ℕ) (operation : (target_at start past).manager.operation ≡ Some op) (phase : op.phase ≡ phases.Response fifo) (manages : (target_at start past).manages ≡ Some r) where
   was : WasAsked start past r op
@@ -92,3 +96,10 @@ module _ (start : List Disk) (past : List Moment) (counts : SerialsCount past) (
       let on = subst (λ (d : Option Decided). IsOn d orb) (sym decided_is) (subst (IsOn (target_at start past).decided) last on_last) in
       access_there start past counts r op was
       ∙ ap (λ a. Some a) (same_access ∙ (goes (target_at start was.before).decided ask out was.asked.body orb second on body_is ∙ ap (λ (m : Machine). write_access orb.second m.outgoing) manager_is))
+
+  -- it has bytes, and no more than its ORB allows
+  pub response_long : (0 < length (target_at start past).manager.outgoing) × (length (target_at start past).manager.outgoing ≤ (last_read start past).response_length)
+  response_long =
+      let now : IsSecond (target_at start past).decided ask out = subst (λ (d : Option Decided). IsSecond d ask out) decided_is second in
+      let long = long_by (target_at start past).decided ask out (last_read start past) now on_last in
+      subst (λ (m : Machine). (0 < length m.outgoing) × (length m.outgoing ≤ (last_read start past).response_length)) manager_is long

@@ -101,7 +101,7 @@ steps_login (sides.Own (notes.Rung j n k) ∷ later) past i h = steps_login late
 steps_login (_ ∷ later) past i h = absurd h.0
 
 -- ---- what a ring asks for
-ring_asks : (action : Action) (s : InitiatorState) → rings action ≡ true → demand_of action s ≡ Some (ring_demand s)
+pub ring_asks : (action : Action) (s : InitiatorState) → rings action ≡ true → demand_of action s ≡ Some (ring_demand s)
 ring_asks (actions.Append cmd) s e = refl
 ring_asks actions.Ring s e = refl
 ring_asks _ s e = untrue e

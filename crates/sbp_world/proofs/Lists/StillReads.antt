@@ -79,7 +79,7 @@ knows_main phases.WritingLastStatus l p m k e = untrue e
 knows_main phases.ReadingNext l p m k e = untrue e
 knows_main phases.Suspended l p m k e = untrue e
 
-same_offset : (a b : ℕ) → At a ≡ At b → a ≡ b
+pub same_offset : (a b : ℕ) → At a ≡ At b → a ≡ b
 same_offset a b e = cc
 
 knows_ahead : (phase : Phase) (l : OrbList) (p : Progress) (next : OrbPointer) (orb : CommandOrb) → KnowsAhead l p phase next (aheads.Kept orb) → (offset : ℕ) → next ≡ At offset → IsAt l (number_behind phase p.ended) p.ended (aligned offset)

@@ -9,6 +9,7 @@ use Rattle.sbp_laws.specs.Budget.{Lossless, budget, most_deliveries}
 use Rattle.sbp_laws.specs.Completion.{EndsSettled}
 use Rattle.sbp_world.specs.Lists.OwnLogins.{IsTame}
 use Rattle.sbp_world.specs.Wire.Keeping.{SettlesWhereItMay}
+use Rattle.sbp_world.proofs.Completing.DoneFronts.{all_rung_complete_law}
 use Rattle.sbp_world.proofs.Counting.CompletionRuns.{completion_law, entries_same}
 use Rattle.sbp_world.proofs.Lists.JoinLaws.{lines_same, moments_same}
 use Rattle.sbp_world.proofs.Lists.ListLaws.{list_laws}
@@ -31,6 +32,7 @@ laws_of run are first is =
       few_logins = λ some most. few_logins_law.few first run bounds some most (sym is.media);
       lists = λ some most. list_laws first run bounds some most (sym is.media);
       completes = λ one some most. completion_law first run bounds one some most (sym is.media);
+      rung = λ some most. all_rung_complete_law first run bounds some most (sym is.media);
     }
 
 -- the scene that stands for a run is the one behind its lines

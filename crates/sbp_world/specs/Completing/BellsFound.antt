@@ -5,13 +5,9 @@ use Rattle.mgmt_agent.specs.Decisions.{agent_base}
 use Rattle.rbc_disk.specs.Disk.{Disk}
 use Rattle.sbp_journal.specs.Run.{Moment, said}
 use Rattle.sbp_journal.specs.declared.note.Note.TheVariants as notes
-use Rattle.sbp_laws.specs.Budget.{Lossless}
-use Rattle.sbp_laws.specs.Completion.{in_the_air}
 use Rattle.sbp_world.specs.Completing.Bells.{WasBelled}
-use Rattle.sbp_world.specs.Completing.BellsGot.{BellsTakenLaw, IsBehind}
-use Rattle.sbp_world.specs.Completing.Done.{RungEnded}
+use Rattle.sbp_world.specs.Completing.BellsGot.{IsBehind}
 use Rattle.sbp_world.specs.Completing.Labels.{AlwaysFrom}
-use Rattle.sbp_world.specs.Completing.PresentHomes.{HomesLaw}
 use Rattle.sbp_world.specs.Completing.Sights.{IsFresh}
 use Rattle.sbp_world.specs.Lists.OwnLogins.{IsTame}
 use Rattle.sbp_world.specs.Worlds.{WorldState}
@@ -27,9 +23,6 @@ pub record IsBellFound (now : List Moment) (place i n k : ℕ) (written : WasBel
 abbrev pub AreBellsFound : List Disk → List Moment → WorldState → Type 0
 AreBellsFound start now w =
     (i n k : ℕ) → i < length w.initiators → IsFresh now i n → (written : WasBelled now i n k) → (x : IsBehind start now w i n k written) → written.access.is_block ≡ false → IsBellFound now x.opening.place i n k written
-
-abbrev pub BellsFoundLaw : Type 0
-BellsFoundLaw = AlwaysFrom (λ start past w. IsTame past → Lossless past → in_the_air past ≡ 0 → AreBellsFound start past w)
 
 -- Each quadlet that a ring wrote once the ORB_POINTER of its list was got is for the DOORBELL of the agent that has the list.
 abbrev pub AreBellsAddressed : List Disk → List Moment → WorldState → Type 0
@@ -47,20 +40,3 @@ pub record IsQuadletGot (now : List Moment) (i n k : ℕ) (written : WasBelled n
 
 abbrev pub AreQuadletsGot : List Disk → List Moment → WorldState → Type 0
 AreQuadletsGot start now w = (i n k : ℕ) → i < length w.initiators → IsFresh now i n → (written : WasBelled now i n k) → IsBehind start now w i n k written → written.access.is_block ≡ false → IsQuadletGot now i n k written
-
-abbrev pub QuadletsGotLaw : Type 0
-QuadletsGotLaw = AlwaysFrom (λ start past w. IsTame past → Lossless past → in_the_air past ≡ 0 → AreQuadletsGot start past w)
-
--- so it is then found
-abbrev pub QuadletsFoundLaw : Type 0
-QuadletsFoundLaw = QuadletsGotLaw → BellsFoundLaw
-
-abbrev pub RungEndedWhereQuadletsLaw : Type 0
-RungEndedWhereQuadletsLaw = HomesLaw → QuadletsGotLaw → AlwaysFrom RungEnded
-
--- that suffices
-abbrev pub FoundTakenLaw : Type 0
-FoundTakenLaw = BellsFoundLaw → BellsTakenLaw
-
-abbrev pub RungEndedWhereFoundLaw : Type 0
-RungEndedWhereFoundLaw = HomesLaw → BellsFoundLaw → AlwaysFrom RungEnded

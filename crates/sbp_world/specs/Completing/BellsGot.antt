@@ -5,17 +5,11 @@ use Rattle.rbc_disk.specs.Disk.{Disk}
 use Rattle.sbp_journal.specs.Run.{Moment, said}
 use Rattle.sbp_journal.specs.Wire.{terms}
 use Rattle.sbp_journal.specs.declared.note.Note.TheVariants as notes
-use Rattle.sbp_laws.specs.Budget.{Lossless}
-use Rattle.sbp_laws.specs.Completion.{in_the_air}
 use Rattle.sbp_world.specs.Completing.Bells.{WasBelled}
 use Rattle.sbp_world.specs.Completing.BellsOpened.{HasOpening}
-use Rattle.sbp_world.specs.Completing.Done.{RungEnded}
-use Rattle.sbp_world.specs.Completing.Labels.{AlwaysFrom}
 use Rattle.sbp_world.specs.Completing.Present.{WasPointed}
-use Rattle.sbp_world.specs.Completing.PresentHomes.{HomesLaw}
 use Rattle.sbp_world.specs.Completing.Rung.{IsRung}
 use Rattle.sbp_world.specs.Completing.Sights.{IsFresh}
-use Rattle.sbp_world.specs.Lists.OwnLogins.{IsTame}
 use Rattle.sbp_world.specs.Worlds.{WorldState}
 
 -- the agent of a place got a DOORBELL, behind what stood as the ring wrote it
@@ -38,9 +32,3 @@ pub record IsBehind (start : List Disk) (now : List Moment) (w : WorldState) (i 
 abbrev pub AreBellsTaken : List Disk → List Moment → WorldState → Type 0
 AreBellsTaken start now w =
     (i n k : ℕ) → i < length w.initiators → IsFresh now i n → (written : WasBelled now i n k) → (x : IsBehind start now w i n k written) → IsBellTaken now x.opening.place i n k written
-
-abbrev pub BellsTakenLaw : Type 0
-BellsTakenLaw = AlwaysFrom (λ start past w. IsTame past → Lossless past → in_the_air past ≡ 0 → AreBellsTaken start past w)
-
-abbrev pub RungEndedWhereTakenLaw : Type 0
-RungEndedWhereTakenLaw = HomesLaw → BellsTakenLaw → AlwaysFrom RungEnded

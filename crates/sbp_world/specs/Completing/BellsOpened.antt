@@ -4,14 +4,10 @@ use Rattle.command_agent.specs.declared.phase.Phase.TheVariants as phases
 use Rattle.rbc_disk.specs.Disk.{Disk}
 use Rattle.sbp_journal.specs.Run.{Moment, said}
 use Rattle.sbp_journal.specs.declared.note.Note.TheVariants as notes
-use Rattle.sbp_laws.specs.Lawful.{injectors}
 use Rattle.sbp_laws.specs.OrderLaw.{is_cut}
 use Rattle.sbp_laws.specs.Terms.{lists}
 use Rattle.sbp_world.specs.Completing.Bells.{KeepsList, agent_then}
-use Rattle.sbp_world.specs.Completing.Labels.{AlwaysFrom}
 use Rattle.sbp_world.specs.Completing.Present.{WasPointed}
-use Rattle.sbp_world.specs.Completing.PresentHomes.{HomesLaw}
-use Rattle.sbp_world.specs.Lists.FewLogins.{IsTameOrFew}
 use Rattle.sbp_world.specs.Lists.Opened.{IsUp}
 use Rattle.sbp_world.specs.Telling.{holder}
 use Rattle.sbp_world.specs.Worlds.{WorldState}
@@ -32,7 +28,3 @@ pub record HasOpening (start : List Disk) (past : List Moment) (w : WorldState) 
 -- so it is of each list that was not cut and for which the write of ORB_POINTER was taken, in the generation that its initiator is in, of each initiator that is not among these
 abbrev pub AreOpenings : (ℕ → Bool) → List Disk → List Moment → WorldState → Type 0
 AreOpenings wild start past w = (i n : ℕ) → i < length w.initiators → wild i ≡ false → (x : WasPointed past i n) → is_cut past i n ≡ false → HasOpening start past w i n x.serial
-
--- where a write of ORB_POINTER that waits finds the login of its initiator
-abbrev pub OpeningsLaw : Type 0
-OpeningsLaw = HomesLaw → AlwaysFrom (λ start past w. IsTameOrFew past → AreOpenings (injectors past) start past w)

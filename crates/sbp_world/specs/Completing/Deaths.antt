@@ -50,9 +50,10 @@ use Rattle.rbc_disk.specs.Held.{Held}
 use Rattle.sbp_world.specs.Delivering.{MayTell}
 use Rattle.sbp_world.specs.Worlds.{WorldState}
 use Rattle.sbp_world.specs.Completing.Sights.{AreFewOfCutLists, since_sight}
-use Rattle.sbp_world.specs.Completing.Labels.{AlwaysFrom, LosesNothing, of_cut_lists}
+use Rattle.sbp_world.specs.Completing.Labels.{AlwaysFrom, AlwaysWhere, LosesNothing, of_cut_lists}
 use Rattle.sbp_world.specs.Completing.LabelsAsked.{IsNoWrite, MayAsk}
 use Rattle.sbp_world.specs.Completing.LabelsFound.{FindsLabels}
+use Rattle.sbp_world.specs.Lists.FewLogins.{FewLogins}
 use Rattle.sbp_world.specs.Lists.Lists.{orbs_by}
 use Rattle.orb_layout.specs.declared.ask.Ask.TheVariants.{Write}
 use Rattle.sbp_world.specs.Counting.Brings.{IsMainReply}
@@ -165,9 +166,6 @@ GoesOnThere start past w = IsTame past → AreLegal past → LosesNothing past �
 abbrev pub NoneDied : List Disk → List Moment → WorldState → Type 0
 NoneDied start past w = IsTame past → AreLegal past → AreKept past → AreFewOfCutLists start past → NoneDies (since_sight 0 past)
 
-abbrev pub NoneDiesLaw : Type 0
-NoneDiesLaw = AlwaysFrom GoesOnThere → AlwaysFrom NoneDied
-
 -- ---- what makes deliveries go on
 -- the response to the main transaction of an agent is complete
 abbrev pub AreGiven : WorldState → Type 0
@@ -183,10 +181,6 @@ WritesFind w =
 abbrev pub WhereKept : (WorldState → Type 0) → List Disk → List Moment → WorldState → Type 0
 WhereKept Q start past w = IsTame past → AreLegal past → LosesNothing past → AreFewNow start (length w.initiators) past → Q w
 
--- So each delivery goes on, and no agent dies.
-abbrev pub LivingLaw : Type 0
-LivingLaw = AlwaysFrom (WhereKept AreGiven) → AlwaysFrom (WhereKept WritesFind) → AlwaysFrom NoneDied
-
 -- The response to the main transaction of an agent answers what it asked for complete: a read with as many bytes as it asked for, and a write with rcode 0.
 pub record IsAnswered (access : Asked) (answer : Answer) : Type 0 where
   pub reads : access.is_write ≡ false → IsWhole answer access.count
@@ -199,14 +193,11 @@ MainAnswered start past w =
 abbrev pub MainAnsweredThere : List Disk → List Moment → WorldState → Type 0
 MainAnsweredThere start past w = IsTame past → AreLegal past → LosesNothing past → AreFewNow start (length w.initiators) past → MainAnswered start past w
 
--- then it is complete for the agent
-abbrev pub GivenLaw : Type 0
-GivenLaw = AlwaysFrom MainAnsweredThere → AlwaysFrom (WhereKept AreGiven)
-
 -- Each write that an agent asks for behind the response finds a label: it fits a request.
 abbrev pub FindingLaw : Type 0
 FindingLaw = AlwaysFrom (WhereKept WritesFind)
 
--- so no agent dies, where what it asked for is answered complete
-abbrev pub AnsweredLaw : Type 0
-AnsweredLaw = AlwaysFrom MainAnsweredThere → AlwaysFrom NoneDied
+-- ---- in every run with few logins
+-- So no agent dies where few logins were given.
+abbrev pub LivesFewLaw : Type 0
+LivesFewLaw = AlwaysWhere FewLogins NoneDied

@@ -4,7 +4,7 @@
 -- have been cut 40 at most are under way at each moment since then.
 use Rattle.std.specs.Prelude.{◌≡◌, ◌≤◌, ◌<◌, ℕ, false, List, [], ◌∷◌, length, None}
 use Rattle.rbc_disk.specs.Disk.{Disk}
-use Rattle.sbp_journal.specs.Run.{Moment, said}
+use Rattle.sbp_journal.specs.Run.{Entry, Moment, history, said}
 use Rattle.sbp_journal.specs.Wire.{terms}
 use Rattle.sbp_journal.specs.declared.note.Note.TheVariants as notes
 use Rattle.sbp_laws.specs.Budget.{Lossless, initiators}
@@ -16,12 +16,14 @@ use Rattle.sbp_world.specs.Completing.Deaths.{AreLegal, NoneDies}
 use Rattle.sbp_world.specs.Completing.Labels.{AlwaysFrom}
 use Rattle.sbp_world.specs.Completing.Present.{IsPresent}
 use Rattle.sbp_world.specs.Completing.RestStatuses.{HasDead}
-use Rattle.sbp_world.specs.Completing.Shut.{AreLoginsLatest}
 use Rattle.sbp_world.specs.Completing.Sights.{AreFewOfCutLists, IsFresh, rung, since_sight}
-use Rattle.sbp_world.specs.Completing.Writes.{AreFifosLatest}
+use Rattle.sbp_world.specs.Histories.{history_of}
+use Rattle.sbp_world.specs.Hosts.Runs.{IsRun}
 use Rattle.sbp_world.specs.Lists.Closes.{Always}
 use Rattle.sbp_world.specs.Lists.FewLogins.{FewLogins}
 use Rattle.sbp_world.specs.Lists.OwnLogins.{IsTame}
+use Rattle.sbp_world.specs.Runs.{Run}
+use Rattle.sbp_world.specs.Wire.Journal.{journal_run}
 use Rattle.sbp_world.specs.Worlds.{WorldState}
 
 -- ---- deaths
@@ -55,21 +57,16 @@ RungOrbsCompleteThere start past w = IsTame past → FewLogins past → AreLegal
 abbrev pub RungOrbsCompleteLaw : Type 0
 RungOrbsCompleteLaw = AlwaysFrom RungOrbsCompleteThere
 
--- ---- what it rests on
--- no operation of the management is under way at rest
-abbrev pub OperationsEnd : List Disk → List Moment → WorldState → Type 0
-OperationsEnd start past w = IsTame past → Lossless past → in_the_air past ≡ 0 → AreFewOfCutLists start past → (i : ℕ) → i < length w.initiators → (host_at past i).operation ≡ None
+-- behind each line of a run, by its journal
+abbrev pub AllRungComplete : List Disk → List Entry → Type 0
+AllRungComplete start [] = Unit {0}
+AllRungComplete start (entry ∷ before) = RungOrbsComplete start (history (entry ∷ before)) × AllRungComplete start before
 
+abbrev pub AllRungCompleteLaw : Type 0
+AllRungCompleteLaw =
+    (line : ℕ) (run : Run) → IsRun run → 0 < run.units → run.units ≤ 4 → length run.start.disks ≡ run.units → (let past = history_of line run in IsTame past → FewLogins past → AreLegal past → AllRungComplete run.start.disks (journal_run line run).entries)
+
+-- ---- what it rests on
 -- a list that is present there has ended as many ORBs as are rung of it
 abbrev pub RungEnded : List Disk → List Moment → WorldState → Type 0
 RungEnded start past w = IsTame past → Lossless past → in_the_air past ≡ 0 → (i n : ℕ) → i < length w.initiators → IsFresh past i n → IsPresent past w i n → rung past i n ≤ ends past i n
-
--- what is not proved: each status of a command, and that of each login, goes to the FIFO of the latest login of its initiator; and what the two sentences above say
-pub record RungPremises : Type 0 where
-  pub latest : AlwaysFrom AreFifosLatest
-  pub logins : AlwaysFrom (λ start past w. IsTame past → AreLoginsLatest start past w)
-  pub operations_end : AlwaysFrom OperationsEnd
-  pub ended : AlwaysFrom RungEnded
-
-abbrev pub DoneLaw : Type 0
-DoneLaw = RungPremises → RungOrbsCompleteLaw

@@ -113,6 +113,10 @@ NoneFailed start past w = IsTame past → AreKept past → AreFewOfCutLists star
 abbrev pub NoneFailsLaw : Type 0
 NoneFailsLaw = AlwaysFrom ManagedGivenThere → AlwaysFrom ManagedFindsThere → AlwaysFrom NoneFailed
 
+-- and both are so
+abbrev pub NoneFailedLaw : Type 0
+NoneFailedLaw = AlwaysFrom NoneFailed
+
 -- ---- a write of MANAGEMENT_AGENT
 -- It was got, and the target answered it with conflict_error, which is 4.
 pub record WasRefused (past : List Moment) (write : ℕ) : Type 0 where
@@ -187,3 +191,6 @@ GoOnThere start past w = IsTame past → LosesNothing past → AreFewNow start (
 
 abbrev pub GoOnLaw : Type 0
 GoOnLaw = AlwaysFrom ManagedGivenThere → AlwaysFrom ManagedFindsThere → AlwaysFrom GoOnThere
+
+abbrev pub AllGoOnLaw : Type 0
+AllGoOnLaw = AlwaysFrom GoOnThere

@@ -1,6 +1,6 @@
 -- What becomes of a write of MANAGEMENT_AGENT that the target took as new (NCITS 325-1998, management agent): the target handles the ORB in its place; or it had an operation under way, and refused
--- the write; or it ignored it; or it wrote the status block of the ORB, which was taken as new. So it is while nothing times out, no operation fails, the target sees no other generation, and the
--- responses that its operation waits for are whole.
+-- the write; or it ignored it; or it wrote the status block of the ORB, which was taken as new and answered complete. So it is while nothing times out, no operation fails, the target sees no other
+-- generation, and the responses that its operation waits for are whole.
 use Rattle.std.specs.Prelude.{◌≡◌, ◌<◌, ◌++◌, ℕ, suc, true, List, ◌∷◌, Some, None}
 use Rattle.bus_memory.specs.declared.window.Window.TheVariants as windows
 use Rattle.bus_memory.specs.Windows.{start as start_of}
@@ -8,6 +8,7 @@ use Rattle.bus_transactions.specs.Packets.{SerialsCount}
 use Rattle.mgmt_agent.specs.declared.operation.Operation.{Operation}
 use Rattle.mgmt_agent.specs.declared.operation.Phase.TheVariants as phases
 use Rattle.orb_layout.specs.Pointers.{offset_at}
+use Rattle.orb_layout.specs.Replies.{Done}
 use Rattle.rbc_disk.specs.Disk.{Disk}
 use Rattle.sbp_journal.specs.Addresses.{Access, management_agent, start_at, start_serves}
 use Rattle.sbp_journal.specs.Run.{Moment, asked, said}
@@ -50,15 +51,30 @@ pub record WasBusy (start : List Disk) (past : List Moment) (write : ℕ) : Type
   pub op : Operation
   pub busy : (target_at start before).manager.operation ≡ Some op
 
--- it ignored it
+-- it ignored it as new
 pub record WasIgnored (past : List Moment) (write : ℕ) : Type 0 where
   pub later : List Moment
   pub before : List Moment
   pub cause : Cause
   pub is : later ++ said (notes.Ignored write cause) ∷ before ≡ past
   pub new : (terms before).news write ≡ 0
+  pub taken : 0 < (terms (said (notes.Ignored write cause) ∷ before)).news write
 
--- the status block of the ORB, sent behind the write, was taken as new
+-- the response to it was got while the operation waited for it, behind the write, and was complete
+pub record WasDone (start : List Disk) (past : List Moment) (i write serial generation : ℕ) : Type 0 where
+  pub later : List Moment
+  pub before : List Moment
+  pub got : ℕ
+  pub is : later ++ said (notes.Got got) ∷ before ≡ past
+  pub closes : answered_at (terms before) got ≡ Some serial
+  pub done : answer_in (packet_at (terms before) got) ≡ Done
+  pub manages : (target_at start before).manages ≡ Some serial
+  pub op : Operation
+  pub operation : (target_at start before).manager.operation ≡ Some op
+  pub source : op.source ≡ (terms before).ids generation (suc i)
+  pub taken : 0 < (terms before).news write
+
+-- the status block of the ORB, sent behind the write, was taken as new and answered complete
 pub record WasTold (start : List Disk) (past : List Moment) (i write place generation : ℕ) : Type 0 where
   pub serial : ℕ
   pub op : Operation
@@ -68,6 +84,7 @@ pub record WasTold (start : List Disk) (past : List Moment) (i write place gener
   pub orb : op.orb ≡ start_of (windows.Management place)
   pub behind : write < serial
   pub judged : 0 < (terms past).news serial
+  pub done : WasDone start past i write serial generation
 
 pub data Became (start : List Disk) (past : List Moment) (i write place generation : ℕ) : Type 0 where
   handled : IsHandled start past i write place generation → Became start past i write place generation

@@ -30,6 +30,10 @@ pub record AlwaysFrom (Q : List Disk → List Moment → WorldState → Type 0) 
   pub after_lines : (line : ℕ) (run : Run) → IsRun run → 0 < run.units → run.units ≤ 4 → length run.start.disks ≡ run.units → Q run.start.disks (history_of line run) (after (beginning run) run.entries).world
   pub between : (line : ℕ) (run : Run) → IsRun run → 0 < run.units → run.units ≤ 4 → length run.start.disks ≡ run.units → (next : ℕ) (most : Option ℕ) (told : List (Option Told)) → MayAll told (begun (after (beginning run) run.entries)) → (let w = (after_all told (begun (after (beginning run) run.entries))).world in Q run.start.disks (map said w.fresh ++ asked next (more_deliveries most) ∷ history_of line run) w)
 
+-- where a condition on its history holds
+abbrev pub AlwaysWhere : (List Moment → Type 0) → (List Disk → List Moment → WorldState → Type 0) → Type 0
+AlwaysWhere While Q = AlwaysFrom (λ start past w. While past → Q start past w)
+
 -- ---- the run up to a place
 -- Since the latest reset nothing was lost, no transaction timed out and nothing was injected, and the target has seen that reset.
 pub record LosesNothing (past : List Moment) : Type 0 where

@@ -27,7 +27,7 @@ use Rattle.sbp_target.specs.declared.purpose.Purpose.TheVariants as purposes
 use Rattle.sbp_world.specs.Completing.Deaths.{AreFewNow}
 use Rattle.sbp_world.specs.Completing.Labels.{AlwaysFrom, LosesNothing}
 use Rattle.sbp_world.specs.Completing.LabelsAsked.{MayAsk}
-use Rattle.sbp_world.specs.Completing.ManagedRefusals.{IsShut}
+use Rattle.sbp_world.specs.Completing.ManagedRefusals.{IsShut, is_hard}
 use Rattle.sbp_world.specs.Completing.OperationsReplies.{IsWhole}
 use Rattle.sbp_world.specs.Lists.Needs.{IsFor}
 use Rattle.sbp_world.specs.Lists.OwnLogins.{IsTame}
@@ -52,10 +52,10 @@ AreManagedGivenBefore w = (sent : Sent) (packet : Packet) → IsManagedReply w s
 abbrev pub GivenBeforeLaw : Type 0
 GivenBeforeLaw = AlwaysFrom (λ start past w. IsTame past → AreManagedGivenBefore w)
 
--- The FIFO that the operation writes its status block to is one, and is open whenever the initiator ignores the block.
+-- The FIFO that the operation writes its status block to is one, and is open whenever the initiator ignores the block for a cause that is answered with an error.
 pub record IsOpenFor (past : List Moment) (i ask offset : ℕ) : Type 0 where
   pub fifo : is_fifo offset ≡ true
-  pub opens : (later earlier : List Moment) (cause : Cause) → later ++ said (notes.Ignored ask cause) ∷ earlier ≡ past → IsShut (host_at earlier i) offset → ⊥
+  pub opens : (later earlier : List Moment) (cause : Cause) → later ++ said (notes.Ignored ask cause) ∷ earlier ≡ past → is_hard cause ≡ true → IsShut (host_at earlier i) offset → ⊥
 
 abbrev pub AreStatusesOpen : List Disk → List Moment → WorldState → Type 0
 AreStatusesOpen start past w =

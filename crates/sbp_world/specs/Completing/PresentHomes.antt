@@ -10,7 +10,7 @@ use Rattle.sbp_journal.specs.Wire.{terms}
 use Rattle.sbp_laws.specs.Packets.{id_for}
 use Rattle.sbp_session.specs.Laws.{carried}
 use Rattle.sbp_target.specs.Nodes.{login_at}
-use Rattle.sbp_world.specs.Lists.Closes.{Under, WhereTameOrFew}
+use Rattle.sbp_world.specs.Lists.Closes.{Under}
 use Rattle.sbp_world.specs.Lists.FewLogins.{FewLogins}
 use Rattle.sbp_world.specs.Lists.Live.{HasGivenUp}
 use Rattle.sbp_world.specs.Lists.Needs.{IsCalm}
@@ -38,9 +38,6 @@ pub record WaitsFor (past : List Moment) (i n serial : ℕ) : Type 0 where
 -- so each write of ORB_POINTER that waits finds the login of its initiator
 abbrev pub AreHome : List Moment → WorldState → Type 0
 AreHome past w = (i n serial : ℕ) → i < length w.initiators → IsCalm past i → (x : WaitsFor past i n serial) → HasHome w (id_for (terms past) 0 (suc i)) x.pointer.base
-
-abbrev pub HomesLaw : Type 0
-HomesLaw = Under (WhereTameOrFew AreHome)
 
 -- so it does where few logins were given
 abbrev pub HomesFewLaw : Type 0

@@ -22,9 +22,10 @@ use Rattle.sbp_laws.specs.Turns.{EachMoment}
 use Rattle.sbp_target.specs.Nodes.{login_at}
 use Rattle.sbp_world.specs.Agents.AskedRuns.{serial_of}
 use Rattle.sbp_world.specs.Completing.Answers.{WaitsOn}
-use Rattle.sbp_world.specs.Completing.Deaths.{MainAnsweredThere, NoneDied}
-use Rattle.sbp_world.specs.Completing.Labels.{AlwaysFrom}
+use Rattle.sbp_world.specs.Completing.Deaths.{MainAnsweredThere}
+use Rattle.sbp_world.specs.Completing.Labels.{AlwaysFrom, AlwaysWhere}
 use Rattle.sbp_world.specs.Lists.Needs.{initiator_in, machine_at}
+use Rattle.sbp_world.specs.Lists.FewLogins.{FewLogins}
 use Rattle.sbp_world.specs.Lists.OwnLogins.{IsTame}
 use Rattle.sbp_world.specs.Worlds.{WorldState}
 
@@ -44,13 +45,6 @@ abbrev pub NoneRefused : List Disk → List Moment → WorldState → Type 0
 NoneRefused start past w = IsTame past → EachMoment (UnrefusedAt start) past
 
 -- at each place of every run
-abbrev pub UnrefusedLaw : Type 0
-UnrefusedLaw = AlwaysFrom NoneRefused
-
--- So what an agent asks for as its main transaction is answered complete.
-abbrev pub AnsweredThereLaw : Type 0
-AnsweredThereLaw = UnrefusedLaw → AlwaysFrom MainAnsweredThere
-
 -- ---- a status that is accepted
 -- It goes to the FIFO of the login that its initiator asked for last, the session is not out, and the bytes are a status block.
 pub record IsAccepted (past : List Moment) (i : ℕ) (access : Access) : Type 0 where
@@ -68,9 +62,6 @@ AreAccepted start past w = IsTame past → (place i serial : ℕ) (access : Acce
 abbrev pub AreStatusesAccepted : List Disk → List Moment → WorldState → Type 0
 AreStatusesAccepted start past w =
     IsTame past → (place serial : ℕ) → place < 8 → (agent_at (over (target_at start past)) place).main ≡ Some serial → writes_status (machine_at w place).phase ≡ true → (terms past).generation 0 ≡ (terms past).generation (suc (initiator_in w place)) → (access : Access) → access_at (terms past) serial ≡ Some access → IsAccepted past (initiator_in w place) access
-
-abbrev pub StatusesAcceptedLaw : Type 0
-StatusesAcceptedLaw = AlwaysFrom AreStatusesAccepted → AlwaysFrom AreAccepted
 
 -- ---- by the login of the place, and by what the agent writes
 -- the FIFO is that of the login which the initiator asked for last, and open
@@ -93,10 +84,6 @@ abbrev pub AreFifosLatest : List Disk → List Moment → WorldState → Type 0
 AreFifosLatest start past w =
     IsTame past → (place : ℕ) (login : Login) → place < 8 → login_at w.target place ≡ Some login → is_live login ≡ true → writes_status (machine_at w place).phase ≡ true → (terms past).generation 0 ≡ (terms past).generation (suc (initiator_in w place)) → IsLatestFifo past (initiator_in w place) login.fifo
 
--- Where it is, it is open: an initiator in the target's generation that has a live login is not out.
-abbrev pub FifosLatestLaw : Type 0
-FifosLatestLaw = AlwaysFrom AreFifosLatest → AlwaysFrom AreFifosOpen
-
 -- and what such an agent writes is a status block
 pub record IsReadable (bytes : List ℕ) : Type 0 where
   pub block : StatusBlock
@@ -109,13 +96,11 @@ AreReadable start past w = IsTame past → (place : ℕ) → place < 8 → write
 abbrev pub ReadableLaw : Type 0
 ReadableLaw = AlwaysFrom AreReadable
 
-abbrev pub FifosOpenLaw : Type 0
-FifosOpenLaw = AlwaysFrom AreFifosOpen → AlwaysFrom AreReadable → AlwaysFrom AreStatusesAccepted
+-- ---- where few logins were given
+-- The FIFO of the login of each place whose agent writes a status is open, while target and initiator are in one generation.
+abbrev pub FifosOpenFewLaw : Type 0
+FifosOpenFewLaw = AlwaysWhere FewLogins AreFifosOpen
 
--- Then nothing that an agent waits for is refused.
-abbrev pub AcceptedLaw : Type 0
-AcceptedLaw = AlwaysFrom AreAccepted → UnrefusedLaw
-
--- And so no agent dies.
-abbrev pub AcceptedLivesLaw : Type 0
-AcceptedLivesLaw = AlwaysFrom AreFifosLatest → AlwaysFrom NoneDied
+-- So nothing that an agent waits for is refused, and what it asks for as its main transaction is answered complete.
+abbrev pub AnsweredFewLaw : Type 0
+AnsweredFewLaw = AlwaysWhere FewLogins MainAnsweredThere

@@ -12,6 +12,8 @@ use Rattle.sbp_laws.specs.Completion.{CompletesByCount}
 use Rattle.sbp_laws.specs.Lawful.{injectors}
 use Rattle.sbp_laws.specs.OnTheBus.{FormedOnTheBus, LawfulOnTheBus}
 use Rattle.sbp_laws.specs.Turns.{EachTurn}
+use Rattle.sbp_world.specs.Completing.Deaths.{AreLegal}
+use Rattle.sbp_world.specs.Completing.Done.{AllRungComplete}
 use Rattle.sbp_world.specs.Forms.{AreTyped}
 use Rattle.sbp_world.specs.Histories.{history_of}
 use Rattle.sbp_world.specs.Lists.ListLaws.{HasListLaws}
@@ -35,7 +37,8 @@ pub record IsLikeAScripts (run : Run) : Type 0 where
 -- The laws of a run whose first line has this number: its history has those of the wire, its journal those of the lines of the bus, and where
 -- its notes are inside their types, as each line's are, each is determined by its text; where it
 -- has one to four units, commands run in each turn exactly where they are due, those of any initiators; and where then no initiator injected packets or few logins were
--- given, its history has the laws of lists; and where no initiator injected packets, and there is one, it completes by a count. In up to 65,536 lines behind the first, few logins are given.
+-- given, its history has the laws of lists; and where no initiator injected packets, and there is one, it completes by a count. In up to 65,536 lines behind the first, few logins are given; and then, where besides the commands of the lines are
+-- legal and no initiator injected packets, each rung ORB completes, behind each line.
 pub record HasLaws (first : ℕ) (run : Run) : Type 0 where
   pub of_wire : IsOfWire (history_of first run)
   pub on_the_bus : FormedOnTheBus (injectors (history_of first run)) (journal_run first run)
@@ -44,6 +47,7 @@ pub record HasLaws (first : ℕ) (run : Run) : Type 0 where
   pub few_logins : 0 < run.units → run.units ≤ 4 → length run.entries ≤ 65536 → FewLogins (history_of first run)
   pub lists : 0 < run.units → run.units ≤ 4 → IsTameOrFew (history_of first run) → HasListLaws run.initiators run.start.disks (history_of first run)
   pub completes : 0 < run.initiators → 0 < run.units → run.units ≤ 4 → IsTame (history_of first run) → CompletesByCount (journal_run first run).entries
+  pub rung : 0 < run.units → run.units ≤ 4 → IsTame (history_of first run) → FewLogins (history_of first run) → AreLegal (history_of first run) → AllRungComplete run.start.disks (journal_run first run).entries
 
 -- A world and its media stand for a run, which has the laws where it is such as a script's. Where it has then one to four units, the terms of its journal are the states of the two ends of
 -- this world; and where besides no initiator injected packets or few logins were given, the lists that are open are those of the places.
