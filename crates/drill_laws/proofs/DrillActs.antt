@@ -57,6 +57,26 @@ telling_same (notes.Sent serial generation from to bytes ∷ told) past all = ab
 telling_same (_ ∷ told) past all = absurd (let no : false ≡ true = all.0 in cc no)
 
 -- ---- the packet
+-- it is the ring of the initiator's line
+pub record IsRingPacket (past : List Moment) (i from to : ℕ) (bytes : List ℕ) : Type 0 where
+  pub sender : from ≡ suc i
+  pub receiver : to ≡ 0
+  pub source : ℕ
+  pub destination : ℕ
+  pub source_small : source < 2 ^ 16
+  pub destination_small : destination < 2 ^ 16
+  pub spelled : bytes ≡ canon (request_with (header_to source destination (label_of bytes)) (ring_body past i (host_at past i) (pointer_for (present_list past i) (host_at past i))))
+
+-- which is the one packet
+pub record OneRing (past : List Moment) (i : ℕ) (sent : List Note) : Type 0 where
+  pub serial : ℕ
+  pub generation : ℕ
+  pub from : ℕ
+  pub to : ℕ
+  pub bytes : List ℕ
+  pub is : sent ≡ notes.Sent serial generation from to bytes ∷ []
+  pub ring : IsRingPacket past i from to bytes
+
 module _ (past : List Moment) (i : ℕ) (small : i < 2) (host : Host) (agent : host.login.agent ≡ base_of i) (wire : Terms) (ids : (generation node : ℕ) → wire.ids generation node ≡ local_id node) where
   own_small : id_of wire (suc i) < 2 ^ 16
   own_small = let is : id_of wire (suc i) ≡ 65472 + suc i = ids (wire.generation (suc i)) (suc i) in omega (arith, is, small)
@@ -116,6 +136,29 @@ module _ (start_disks : List Disk) (past : List Moment) (line i : ℕ) (cmd : Cm
   none_fine [] h = tt
   none_fine (notes.Sent serial generation from to bytes ∷ rest) h = absurd h
   none_fine (_ ∷ rest) h = absurd h
+
+  ring_here : (serial generation from to : ℕ) (bytes : List ℕ) (pointer : Option ℕ)
+      → IsRequest (terms there) (suc i) (record { to = 0; body = ring_body past i host pointer; is_untold = false }) (ring_body past i host pointer) serial generation from to bytes → pointer ≡ pointer_for (present_list past i) host → IsRingPacket past i from to bytes
+  ring_here serial generation from to bytes pointer r e = record {
+    sender = r.sender;
+    receiver = r.receiver;
+    source = id_of (terms there) (suc i);
+    destination = id_for (terms there) (suc i) 0;
+    source_small = own_small past i small host (calm.agents i small) (terms there) ids_there;
+    destination_small = target_small past i small host (calm.agents i small) (terms there) ids_there;
+    spelled = r.spelled ∙ ap (λ p. canon (request_with (header_to (id_of (terms there) (suc i)) (id_for (terms there) (suc i) 0) (label_of bytes)) (ring_body past i host p))) e;
+  }
+
+  one_ring : (sent : List Note) → ArePackets there (suc i) sent (requests_to 0 (Some (ring_body past i host (pointer_for (present_list past i) host)))) → OneRing past i sent
+  one_ring [] h = absurd h
+  one_ring (notes.Sent serial generation from to bytes ∷ []) h =
+      record { serial = serial; generation = generation; from = from; to = to; bytes = bytes; is = refl; ring = ring_here serial generation from to bytes (pointer_for (present_list past i) host) (as_request (pointer_for (present_list past i) host) serial generation from to bytes h.0) refl }
+  one_ring (notes.Sent serial generation from to bytes ∷ notes.Sent a b c d e ∷ rest) h = absurd h.1
+  one_ring (notes.Sent serial generation from to bytes ∷ _ ∷ rest) h = absurd h.1
+  one_ring (_ ∷ rest) h = absurd h
+
+  pub rings_here : RequestsLaw start_disks t → refusal_at past i (actions.Append cmd) ≡ None → OneRing past i (sends_of rest)
+  rings_here asks none = one_ring (sends_of rest) (subst (λ r. ArePackets there (suc i) (drop 0 (sends_of rest)) (unless_refused r (requests_to 0 (action_body (actions.Append cmd) past i host)))) none (asks refl))
 
   sends_fine_here : RequestsLaw start_disks t → AllByRecursion IsFineSent (sends_of rest)
   sends_fine_here asks = by (refusal_at past i (actions.Append cmd)) (asks refl)

@@ -29,7 +29,7 @@ use Rattle.drill_laws.specs.DrillGood.{RanWell}
 use Rattle.drill_laws.specs.DrillLines.{IsDrillCommand, reads, writes}
 use Rattle.drill_laws.specs.DrillRan.{RanThereAt}
 use Rattle.drill_laws.proofs.DrillCalm.{drills_are_calm}
-use Rattle.drill_laws.proofs.DrillGood.{FaultlessAt, all_faultless, begins_history, end_good}
+use Rattle.drill_laws.proofs.DrillGood.{FaultlessAt, all_faultless, begins_history, deathless, end_good}
 use Rattle.drill_laws.proofs.DrillHeld.{Held, Holding, as_it_was, by_one, first_after, names_read, names_write, read_leaves, same_held, same_holding, write_data, write_held, write_leaves, write_needs}
 use Rattle.drill_laws.proofs.DrillLists.{FirstAt, all_first, request_first}
 use Rattle.drill_laws.proofs.DrillOrder.{EndsGoodAt, all_counted, ran, run_is_next, taken_ran}
@@ -224,7 +224,7 @@ drills_write_blocks = record {
       let lists = keeps.lists in
       let run = lawful.run in
       let calm = (drills_are_calm disks entries lawful).calm in
-      let fault = (all_faultless disks past [] (begins_history entries run.lines) done.well tt lawful.causes).each in
+      let fault = (all_faultless disks past [] (begins_history entries run.lines) (deathless past done.well) tt lawful.causes).each in
       let good = good_ends disks past done.well fault lists.order lists.execution keeps.aborted keeps.form calm in
       let fine : Fine disks past = record {
         order = lists.order;

@@ -17,6 +17,7 @@ use Rattle.sbp_laws.specs.CauseLaw.{HasCauses}
 use Rattle.sbp_laws.specs.Hosts.{host_at, known_host, new_host, ready_host}
 use Rattle.sbp_laws.specs.JudgementLaw.{Judges}
 use Rattle.sbp_laws.specs.LoginLaw.{HasLogins}
+use Rattle.sbp_laws.specs.MediaLaw.{HasPushes}
 use Rattle.sbp_laws.specs.OrderLaw.{is_cut}
 use Rattle.sbp_laws.specs.Packets.{answered_at, receiver_in}
 use Rattle.sbp_laws.specs.SentAnswers.{AnswersLaw}
@@ -24,6 +25,7 @@ use Rattle.sbp_laws.specs.SentPackets.{SentAt}
 use Rattle.sbp_laws.specs.SentRequests.{RequestsLaw}
 use Rattle.sbp_laws.specs.Targets.{got_by as target_got, is_serial, known_at, over, target_at, target_by}
 use Rattle.sbp_laws.specs.Turns.{EachMoment, EachTurnBefore, Turn, event_of}
+use Rattle.sbp_laws.specs.Unasked.{NoneUnasked}
 use Rattle.drill_laws.specs.DrillCalm.{DrillsAreCalm, IsCalmAt, IsCalmNote, IsLawfulDrill}
 use Rattle.drill_laws.specs.DrillLines.{IsDrillLine}
 use Rattle.drill_laws.proofs.DrillActs.{act_fine}
@@ -31,8 +33,8 @@ use Rattle.drill_laws.proofs.DrillAir.{AreActing, acting_latest, is_acting, line
 use Rattle.drill_laws.proofs.DrillHosts.{BeginsNone, IsDrillEvent, IsIdle, IsLater, RestsIdle, got_idle_by, note_idle, note_rests, over_idle, target_wire}
 use Rattle.drill_laws.proofs.DrillMoments.{DrillAt, drill_moments}
 use Rattle.drill_laws.proofs.DrillRings.{AreHarmless, code_byte, responses_harmless}
-use Rattle.drill_laws.proofs.DrillSettles.{before_last, line_acting}
-use Rattle.drill_laws.proofs.DrillTurns.{AreFine, IsCalm, IsFine, IsFineNote, IsGood, got_fine, ignored_fine, no_start_here, quiet_fine}
+use Rattle.drill_laws.proofs.DrillSettles.{before_last, each_before, line_acting}
+use Rattle.drill_laws.proofs.DrillTurns.{AreBack, AreFine, IsCalm, IsFine, IsFineNote, IsGood, got_back, got_fine, ignored_back, ignored_fine, no_start_here, quiet_back, quiet_fine}
 use Rattle.drill_laws.proofs.DrillWire.{Parts, note_sent, sends_keeps, young}
 
 -- ---- the laws of a turn together
@@ -43,7 +45,7 @@ pub record TurnLaws (start : List Disk) (t : Turn) : Type 0 where
   pub requests : RequestsLaw start t
   pub judges : Judges start t
 
-together : (start : List Disk) (past : List Moment) (rest : List Note) → EachTurnBefore (HasCauses start) past rest → EachTurnBefore (HasLogins start) past rest → EachTurnBefore (AnswersLaw start) past rest → EachTurnBefore (RequestsLaw start) past rest → EachTurnBefore (Judges start) past rest → EachTurnBefore (TurnLaws start) past rest
+pub together : (start : List Disk) (past : List Moment) (rest : List Note) → EachTurnBefore (HasCauses start) past rest → EachTurnBefore (HasLogins start) past rest → EachTurnBefore (AnswersLaw start) past rest → EachTurnBefore (RequestsLaw start) past rest → EachTurnBefore (Judges start) past rest → EachTurnBefore (TurnLaws start) past rest
 together start [] rest a b c d e = tt
 together start (asked line event ∷ past) rest a b c d e = (record { causes = a.0; logins = b.0; answers = c.0; requests = d.0; judges = e.0 }, together start past [] a.1 b.1 c.1 d.1 e.1)
 together start (said (notes.Got s) ∷ past) rest a b c d e = (record { causes = a.0; logins = b.0; answers = c.0; requests = d.0; judges = e.0 }, together start past [] a.1 b.1 c.1 d.1 e.1)
@@ -68,7 +70,7 @@ latest_event (said note ∷ past) d = latest_event past d.1
 
 -- ---- one moment
 -- which notes stand behind the first one
-later : (start : List Disk) (note : Note) (past : List Moment) → IsCalm start past → DrillAt (said note) past → IsLater note
+pub later : (start : List Disk) (note : Note) (past : List Moment) → IsCalm start past → DrillAt (said note) past → IsLater note
 later start (notes.Begin initiators ready) past calm d =
     let is : (host_at past 0).login.agent ≡ 0 = ap (λ ms. (host_at ms 0).login.agent) d.past_is in
     let based = calm.agents 0 (omega arith) in
@@ -80,7 +82,7 @@ later start notes.Tick past calm d = cc d
 later start _ past calm d = tt
 
 -- a packet that arrives as it should
-abbrev is_got : Note → Bool
+abbrev pub is_got : Note → Bool
 is_got (notes.Got serial) = true
 is_got _ = false
 
@@ -121,7 +123,7 @@ begins_none notes.Tick l e = l
 begins_none _ l e = tt
 
 -- any note but `got`
-note_calm : (start : List Disk) (note : Note) (past : List Moment) → is_got note ≡ false → IsFineNote note → EachMoment DrillAt (said note ∷ past) → EachMoment SentAt (said note ∷ past) → AreSent (said note ∷ past) → IsCalm start past → IsCalm start (said note ∷ past)
+pub note_calm : (start : List Disk) (note : Note) (past : List Moment) → is_got note ≡ false → IsFineNote note → EachMoment DrillAt (said note ∷ past) → EachMoment SentAt (said note ∷ past) → AreSent (said note ∷ past) → IsCalm start past → IsCalm start (said note ∷ past)
 note_calm start (notes.Sent s generation from to bytes) past g fine d own sent calm =
     let free = (young past d.1 own.1).injected s in
     let good = good_sent past s generation from to bytes fine.sent (sent.0 free) in
@@ -132,7 +134,7 @@ note_calm start note past g fine d own sent calm =
     step start note past (begins_none note after g) fine.calm (latest_event past d.1) after calm (λ s q e. calm.sent s q (ap (λ f. f s) (sym same) ∙ e))
 
 -- `got`
-got_calm : (start : List Disk) (s : ℕ) (past : List Moment) → EachMoment DrillAt (said (notes.Got s) ∷ past) → IsCalm start past → IsCalm start (said (notes.Got s) ∷ past)
+pub got_calm : (start : List Disk) (s : ℕ) (past : List Moment) → EachMoment DrillAt (said (notes.Got s) ∷ past) → IsCalm start past → IsCalm start (said (notes.Got s) ∷ past)
 got_calm start s past d calm =
     let is = latest_event past d.1 in
     let same = note_sent (notes.Got s) past d.0 refl in
@@ -156,7 +158,7 @@ opened_sent (events.Act i (actions.Append cmd)) t is = refl
 opened_sent events.Settle t is = refl
 opened_sent _ t is = absurd is
 
-asked_calm : (start : List Disk) (line : ℕ) (event : Event) (past : List Moment) → IsDrillLine event → IsCalm start past → IsCalm start (asked line event ∷ past)
+pub asked_calm : (start : List Disk) (line : ℕ) (event : Event) (past : List Moment) → IsDrillLine event → IsCalm start past → IsCalm start (asked line event ∷ past)
 asked_calm start line event past is calm = record {
   agents = calm.agents;
   sent = λ s q e. calm.sent s q (ap (λ f. f s) (sym (opened_sent event (terms past) is)) ∙ e);
@@ -165,7 +167,7 @@ asked_calm start line event past is calm = record {
 }
 
 -- ---- a line that appends
-fine_onto : (told rest : List Note) → AreFine (onto told rest) → AreFine told × AreFine rest
+pub fine_onto : (told rest : List Note) → AreFine (onto told rest) → AreFine told × AreFine rest
 fine_onto [] rest fine = (tt, fine)
 fine_onto (note ∷ told) rest fine = let more = fine_onto told (note ∷ rest) fine in ((more.1.0, more.0), more.1.1)
 
@@ -173,11 +175,11 @@ acting_got : (note : Note) → is_acting note ≡ true → is_got note ≡ false
 acting_got (notes.Got serial) e = absurd (cc e)
 acting_got _ e = refl
 
-sent_before : (note : Note) (past : List Moment) → AreSent (said note ∷ past) → AreSent past
+pub sent_before : (note : Note) (past : List Moment) → AreSent (said note ∷ past) → AreSent past
 sent_before (notes.Sent s generation from to bytes) past sent = sent.1
 sent_before _ past sent = sent
 
-acting_onto : (told rest : List Note) → AreActing told → AreActing rest → AreActing (onto told rest)
+pub acting_onto : (told rest : List Note) → AreActing told → AreActing rest → AreActing (onto told rest)
 acting_onto [] rest all more = more
 acting_onto (note ∷ told) rest all more = acting_onto told (note ∷ rest) all.1 (all.0, more)
 
@@ -191,6 +193,8 @@ pub record CalmLine (start : List Disk) (past : List Moment) (told rest : List N
   pub calm : IsCalm start past
   pub told_fine : AreFine told
   pub rest_fine : AreFine rest
+  pub told_back : AreBack told
+  pub rest_back : AreBack rest
 
 module _ (start : List Disk) (line : ℕ) (before : List Moment) (first : IsCalm start before) where
   abbrev there : List Note → List Moment
@@ -198,13 +202,15 @@ module _ (start : List Disk) (line : ℕ) (before : List Moment) (first : IsCalm
 
   settle_calm : (told rest : List Note) → EachMoment DrillAt (there told) → EachMoment SentAt (there told) → AreSent (there told) → EachTurnBefore (TurnLaws start) (there told) rest → CalmLine start (there told) told rest
   settle_calm [] rest d own sent each =
-      record { calm = asked_calm start line events.Settle before tt first; told_fine = tt; rest_fine = quiet_fine start before (asked line events.Settle) rest tt each.0.causes each.0.logins each.0.requests }
+      record { calm = asked_calm start line events.Settle before tt first; told_fine = tt; rest_fine = quiet_fine start before (asked line events.Settle) rest tt each.0.causes each.0.logins each.0.requests; told_back = tt; rest_back = quiet_back start before (asked line events.Settle) rest tt each.0.requests }
   settle_calm (notes.Got s ∷ told) rest d own sent each =
       let c = settle_calm told [] d.1 own.1 sent each.1 in
       record {
         calm = got_calm start s (there told) d c.calm;
         told_fine = (record { calm = tt; sent = tt }, c.told_fine);
         rest_fine = got_fine start (there told) s rest c.calm each.0.causes each.0.logins each.0.answers each.0.requests;
+        told_back = (tt, c.told_back);
+        rest_back = got_back start (there told) s rest c.calm each.0.answers each.0.requests;
       }
   settle_calm (notes.Ignored s cause ∷ told) rest d own sent each =
       let c = settle_calm told [] d.1 own.1 sent each.1 in
@@ -212,6 +218,8 @@ module _ (start : List Disk) (line : ℕ) (before : List Moment) (first : IsCalm
         calm = note_calm start (notes.Ignored s cause) (there told) refl (record { calm = tt; sent = tt }) d own sent c.calm;
         told_fine = (record { calm = tt; sent = tt }, c.told_fine);
         rest_fine = ignored_fine start (there told) s rest c.calm cause each.0.judges;
+        told_back = (tt, c.told_back);
+        rest_back = ignored_back start (there told) s rest c.calm cause each.0.judges;
       }
   settle_calm (notes.Settled ∷ told) rest d own sent each =
       let c = settle_calm told [] d.1 own.1 sent each.1 in
@@ -219,6 +227,8 @@ module _ (start : List Disk) (line : ℕ) (before : List Moment) (first : IsCalm
         calm = note_calm start notes.Settled (there told) refl (record { calm = tt; sent = tt }) d own sent c.calm;
         told_fine = (record { calm = tt; sent = tt }, c.told_fine);
         rest_fine = quiet_fine start (there told) (said notes.Settled) rest tt each.0.causes each.0.logins each.0.requests;
+        told_back = (tt, c.told_back);
+        rest_back = quiet_back start (there told) (said notes.Settled) rest tt each.0.requests;
       }
   settle_calm (notes.Stopped ∷ told) rest d own sent each =
       let c = settle_calm told [] d.1 own.1 sent each.1 in
@@ -226,6 +236,8 @@ module _ (start : List Disk) (line : ℕ) (before : List Moment) (first : IsCalm
         calm = note_calm start notes.Stopped (there told) refl (record { calm = tt; sent = tt }) d own sent c.calm;
         told_fine = (record { calm = tt; sent = tt }, c.told_fine);
         rest_fine = quiet_fine start (there told) (said notes.Stopped) rest tt each.0.causes each.0.logins each.0.requests;
+        told_back = (tt, c.told_back);
+        rest_back = quiet_back start (there told) (said notes.Stopped) rest tt each.0.requests;
       }
   settle_calm (notes.TimedOut s ∷ told) rest d own sent each = absurd (let no : false ≡ true = d.0 in cc no)
   settle_calm (notes.Seen node generation ∷ told) rest d own sent each = absurd (let no : false ≡ true = d.0 in cc no)
@@ -236,6 +248,8 @@ module _ (start : List Disk) (line : ℕ) (before : List Moment) (first : IsCalm
         calm = note_calm start (notes.Sent s generation from to bytes) (there told) refl c.rest_fine.0 d own sent c.calm;
         told_fine = (c.rest_fine.0, c.told_fine);
         rest_fine = c.rest_fine.1;
+        told_back = (c.rest_back.0, c.told_back);
+        rest_back = c.rest_back.1;
       }
   settle_calm (note ∷ told) rest d own sent each =
       let c = settle_calm told (note ∷ rest) d.1 own.1 sent each in
@@ -243,15 +257,17 @@ module _ (start : List Disk) (line : ℕ) (before : List Moment) (first : IsCalm
         calm = note_calm start note (there told) refl c.rest_fine.0 d own sent c.calm;
         told_fine = (c.rest_fine.0, c.told_fine);
         rest_fine = c.rest_fine.1;
+        told_back = (c.rest_back.0, c.told_back);
+        rest_back = c.rest_back.1;
       }
 
 -- ---- all lines
-sent_earlier : (later earlier : List Moment) → AreSent (later ++ earlier) → AreSent earlier
+pub sent_earlier : (later earlier : List Moment) → AreSent (later ++ earlier) → AreSent earlier
 sent_earlier [] earlier sent = sent
 sent_earlier (said (notes.Sent s generation from to bytes) ∷ later) earlier sent = sent_earlier later earlier sent.1
 sent_earlier (_ ∷ later) earlier sent = sent_earlier later earlier sent
 
-lawful_before : (disks : List Disk) (entry next : Entry) (before : List Entry) → IsLawfulDrill disks (entry ∷ next ∷ before) → IsLawfulDrill disks (next ∷ before)
+pub lawful_before : (disks : List Disk) (entry next : Entry) (before : List Entry) → IsLawfulDrill disks (entry ∷ next ∷ before) → IsLawfulDrill disks (next ∷ before)
 lawful_before disks entry next before l = record {
   run = before_last disks entry next before l.run;
   sent = sent_earlier (map said entry.notes) (asked entry.line entry.event ∷ history (next ∷ before)) l.sent;
@@ -259,17 +275,19 @@ lawful_before disks entry next before l = record {
   causes = turns_before (HasCauses disks) entry.notes [] (history (next ∷ before)) entry.line entry.event l.causes;
   logins = turns_before (HasLogins disks) entry.notes [] (history (next ∷ before)) entry.line entry.event l.logins;
   judges = turns_before (Judges disks) entry.notes [] (history (next ∷ before)) entry.line entry.event l.judges;
+  asked = (each_before (NoneUnasked disks) (map said entry.notes) (asked entry.line entry.event ∷ history (next ∷ before)) l.asked).1;
+  pushes = turns_before (HasPushes disks) entry.notes [] (history (next ∷ before)) entry.line entry.event l.pushes;
 }
 
-record AllCalm (start : List Disk) (past : List Moment) : Type 0 where
-  here : IsCalm start past
-  each : EachMoment IsCalmAt past
+pub record AllCalm (start : List Disk) (past : List Moment) : Type 0 where
+  pub here : IsCalm start past
+  pub each : EachMoment IsCalmAt past
 
 each_calm : (told : List Note) (past : List Moment) → AreFine told → EachMoment IsCalmAt past → EachMoment IsCalmAt (map said told ++ past)
 each_calm [] past fine each = each
 each_calm (note ∷ told) past fine each = (fine.0.calm, each_calm told past fine.1 each)
 
-first_calm : (start : List Disk) (line : ℕ) → IsCalm start (said (notes.Begin 2 true) ∷ asked line (events.Begin 2 true) ∷ [])
+pub first_calm : (start : List Disk) (line : ℕ) → IsCalm start (said (notes.Begin 2 true) ∷ asked line (events.Begin 2 true) ∷ [])
 first_calm start line = record {
   agents = based;
   sent = λ s q e. absurd (let no : None ≡ Some q = e in cc no);
@@ -285,6 +303,15 @@ first_calm start line = record {
     by : (i : ℕ) (b : Bool) → IsIdle (cond b (ready_host i) new_host)
     by i true = record { operation = refl; reads = refl }
     by i false = record { operation = refl; reads = refl }
+
+settle_line : (disks : List Disk) (entry next : Entry) (before : List Entry) → entry.event ≡ events.Settle → IsLawfulDrill disks (entry ∷ next ∷ before) → IsCalm disks (history (next ∷ before)) → CalmLine disks (map said entry.notes ++ asked entry.line events.Settle ∷ history (next ∷ before)) entry.notes []
+settle_line disks entry next before e l was =
+    let past = history (next ∷ before) in
+    let d = drill_moments disks (entry ∷ next ∷ before) l.run.brings l.run.lines in
+    let all = together disks (history (entry ∷ next ∷ before)) [] l.causes l.logins l.answers l.run.requests l.judges in
+    settle_calm disks entry.line past was entry.notes []
+    (subst (λ v. EachMoment DrillAt (map said entry.notes ++ asked entry.line v ∷ past)) e d) (subst (λ v. EachMoment SentAt (map said entry.notes ++ asked entry.line v ∷ past)) e l.run.packets)
+    (subst (λ v. AreSent (map said entry.notes ++ asked entry.line v ∷ past)) e l.sent) (subst (λ v. EachTurnBefore (TurnLaws disks) (map said entry.notes ++ asked entry.line v ∷ past) []) e all)
 
 line_calm : (disks : List Disk) (entry next : Entry) (before : List Entry) (event : Event) → entry.event ≡ event → IsDrillLine event → IsLawfulDrill disks (entry ∷ next ∷ before) → AllCalm disks (history (next ∷ before)) → AllCalm disks (history (entry ∷ next ∷ before))
 line_calm disks entry next before (events.Act i (actions.Append cmd)) e is l was =
@@ -302,19 +329,14 @@ line_calm disks entry next before (events.Act i (actions.Append cmd)) e is l was
       each = each_calm entry.notes (asked entry.line entry.event ∷ past) fine (tt, was.each);
     }
 line_calm disks entry next before events.Settle e is l was =
-    let past = history (next ∷ before) in
-    let d = drill_moments disks (entry ∷ next ∷ before) l.run.brings l.run.lines in
-    let all = together disks (history (entry ∷ next ∷ before)) [] l.causes l.logins l.answers l.run.requests l.judges in
-    let c = settle_calm disks entry.line past was.here entry.notes []
-    (subst (λ v. EachMoment DrillAt (map said entry.notes ++ asked entry.line v ∷ past)) e d) (subst (λ v. EachMoment SentAt (map said entry.notes ++ asked entry.line v ∷ past)) e l.run.packets)
-    (subst (λ v. AreSent (map said entry.notes ++ asked entry.line v ∷ past)) e l.sent) (subst (λ v. EachTurnBefore (TurnLaws disks) (map said entry.notes ++ asked entry.line v ∷ past) []) e all) in
+    let c = settle_line disks entry next before e l was.here in
     record {
-      here = subst (λ v. IsCalm disks (map said entry.notes ++ asked entry.line v ∷ past)) (sym e) c.calm;
-      each = each_calm entry.notes (asked entry.line entry.event ∷ past) c.told_fine (tt, was.each);
+      here = subst (λ v. IsCalm disks (map said entry.notes ++ asked entry.line v ∷ history (next ∷ before))) (sym e) c.calm;
+      each = each_calm entry.notes (asked entry.line entry.event ∷ history (next ∷ before)) c.told_fine (tt, was.each);
     }
 line_calm disks entry next before _ e is l was = absurd is
 
-all_calm : (disks : List Disk) (entries : List Entry) → IsLawfulDrill disks entries → AllCalm disks (history entries)
+pub all_calm : (disks : List Disk) (entries : List Entry) → IsLawfulDrill disks entries → AllCalm disks (history entries)
 all_calm disks [] l = absurd l.run.lines
 all_calm disks (entry ∷ []) l =
     let told : reverse entry.notes ≡ notes.Begin 2 true ∷ [] = subst (λ v. Brings disks [] entry.line v (reverse entry.notes)) l.run.lines l.run.brings.0 in
@@ -332,3 +354,7 @@ uncut (said _ ∷ past) each i n = uncut past each.1 i n
 
 pub drills_are_calm : DrillsAreCalm
 drills_are_calm disks entries l = let all = all_calm disks entries l in record { calm = all.each; uncut = uncut (history entries) all.each }
+
+-- in a settle no initiator sends the target a request
+pub settle_back : (disks : List Disk) (entry next : Entry) (before : List Entry) → entry.event ≡ events.Settle → IsLawfulDrill disks (entry ∷ next ∷ before) → AreBack entry.notes
+settle_back disks entry next before e l = (settle_line disks entry next before e l (all_calm disks (next ∷ before) (lawful_before disks entry next before l)).here).told_back

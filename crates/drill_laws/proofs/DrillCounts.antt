@@ -1,5 +1,5 @@
 -- Each line of a drill that appends tells one append, or is refused; and no other line does.
-use Rattle.std.proofs.Common.{◌≡◌, ◌∙◌, refl, sym, ap, subst, ℕ, zero, suc, ◌+◌, Bool, true, cond, List, [], ◌∷◌, ◌++◌, map, reverse, Option, Some, None, arith}
+use Rattle.std.proofs.Common.{◌≡◌, ◌∙◌, refl, sym, ap, subst, ℕ, zero, suc, ◌+◌, ◌≤◌, Bool, true, cond, List, [], ◌∷◌, ◌++◌, map, reverse, Option, Some, None, arith}
 use Rattle.std.specs.List.{count_by}
 use Rattle.std.proofs.lemmas.List.{map-append, reverse-append}
 use Rattle.std.proofs.lemmas.List.Sums.{sum_by-append, sum_by-cons}
@@ -150,3 +150,11 @@ lines_weigh disks (entry ∷ next ∷ before) h are =
 
 pub appended_or_refused : AppendsAreTold
 appended_or_refused disks entries h are = weighed (notes_of entries) ∙ lines_weigh disks entries h are
+
+-- a line brings one such note at most
+pub line_appends : (disks : List Disk) (past : List Moment) (line : ℕ) (event : Event) (told : List Note) → IsDrillLine event → Brings disks past line event (reverse told) → count_by is_append told ≤ cond (is_append_line event) 1 0
+line_appends disks past line event told is h =
+    let both_kinds = weighed (reverse told) in
+    let most = line_weighs disks past line event (reverse told) is h in
+    let back = counted-reverse is_append told in
+    omega (arith, both_kinds, most, back)

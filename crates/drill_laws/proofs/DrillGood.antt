@@ -19,7 +19,7 @@ use Rattle.sbp_laws.specs.Terms.{ended_status, ran_status}
 use Rattle.sbp_laws.specs.Turns.{EachMoment, EachTurnBefore, turn}
 use Rattle.drill_text.specs.Tally.{is_good, is_good_status, is_taken}
 use Rattle.drill_laws.specs.DrillCalm.{IsCalmAt, IsLawfulDrill}
-use Rattle.drill_laws.specs.DrillGood.{DrillsAreGood, IsWellAt, RanWell}
+use Rattle.drill_laws.specs.DrillGood.{DrillsAreGood, IsDeathlessAt, IsWellAt, RanWell}
 use Rattle.drill_laws.specs.DrillLines.{AreDrillLines}
 use Rattle.drill_laws.specs.DrillTakings.{told_in}
 use Rattle.drill_laws.proofs.DrillCalm.{drills_are_calm}
@@ -83,9 +83,15 @@ pub record Faultless (past : List Moment) (rest : List Note) : Type 0 where
   pub each : EachMoment FaultlessAt past
   pub behind : AreFaultless rest
 
-no_death : (note : Note) (past : List Moment) → IsWellAt (said note) past → IsDeath note ≡ false
+no_death : (note : Note) (past : List Moment) → IsDeathlessAt (said note) past → IsDeath note ≡ false
 no_death (notes.Dead i list cause) past w = absurd w
 no_death _ past w = refl
+
+-- where each command ran well none died
+pub deathless : (past : List Moment) → RanWell past → EachMoment IsDeathlessAt past
+deathless [] well = tt
+deathless (said (notes.Dead i list cause) ∷ past) well = absurd well.0
+deathless (_ ∷ past) well = (tt, deathless past well.1)
 
 -- those of a turn
 turn_faultless : (start : List Disk) (past : List Moment) (moment : Moment) (rest : List Note) → HasCauses start (turn past moment rest) → NoDeath rest → AreFaultless rest
@@ -99,7 +105,7 @@ module _ (start : List Disk) where
   first_of_turn : (note : Note) (past : List Moment) (rest : List Note) → IsFault note ≡ false → HasCauses start (turn past (said note) rest) → NoDeath rest → Faultless past [] → Faultless (said note ∷ past) rest
   first_of_turn note past rest fine causes dead was = record { each = (fine, was.each); behind = turn_faultless start past (said note) rest causes dead }
 
-  pub all_faultless : (past : List Moment) (rest : List Note) → Begins past → RanWell past → NoDeath rest → Each past rest → Faultless past rest
+  pub all_faultless : (past : List Moment) (rest : List Note) → Begins past → EachMoment IsDeathlessAt past → NoDeath rest → Each past rest → Faultless past rest
   all_faultless [] rest b well dead each = absurd b
   all_faultless (asked line event ∷ []) rest b well dead each = record { each = (tt, tt); behind = turn_faultless start [] (asked line event) rest each.0 dead }
   all_faultless (asked line event ∷ next ∷ past) rest b well dead each = record { each = (tt, (all_faultless (next ∷ past) [] b well.1 tt each.1).each); behind = turn_faultless start (next ∷ past) (asked line event) rest each.0 dead }
@@ -179,7 +185,7 @@ begins_history (entry ∷ before) lines = begins_entries entry before
 all_good : (disks : List Disk) (entries : List Entry) → IsLawfulDrill disks entries → LawfulOnLists nobody disks (history entries) → EachMoment FormAt (history entries) → EachMoment (AbortedAt disks) (history entries) → RanWell (history entries) → count_by is_good (notes_of entries) ≡ count_by is_taken (notes_of entries)
 all_good disks entries lawful lists form aborted well =
     let past = history entries in
-    let fault = (all_faultless disks past [] (begins_history entries lawful.run.lines) well tt lawful.causes).each in
+    let fault = (all_faultless disks past [] (begins_history entries lawful.run.lines) (deathless past well) tt lawful.causes).each in
     let calm = (drills_are_calm disks entries lawful).calm in
     sym (told_is is_good entries) ∙ taken_good disks past well fault lists.execution aborted form calm lists.status.taken ∙ told_is is_taken entries
 

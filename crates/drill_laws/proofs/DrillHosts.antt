@@ -128,7 +128,7 @@ pub record RestsIdle (target : Target) : Type 0 where
   pub manages : target.manages ≡ None
   pub asks : target.manager_asks ≡ Nothing
 
-taken_idle : (told : Option Told) (reply : Option Reply) (target : Target) → RestsIdle target → RestsIdle (taken_on told reply target)
+pub taken_idle : (told : Option Told) (reply : Option Reply) (target : Target) → RestsIdle target → RestsIdle (taken_on told reply target)
 taken_idle told None target h = h
 taken_idle told (Some reply) target h = record { manages = h.manages; asks = h.asks }
 
@@ -147,7 +147,7 @@ ran_idle true note target h = going_idle note target h
 ran_idle false note target h = taken_idle None target.reply target h
 
 -- a packet of it is none of its management
-none_wanted : (target : Target) (is_write : Bool) → RestsIdle target → wants target.manager_asks is_write ≡ false
+pub none_wanted : (target : Target) (is_write : Bool) → RestsIdle target → wants target.manager_asks is_write ≡ false
 none_wanted target is_write h = ap (λ a. wants a is_write) h.asks
 
 for_idle : (place : Option ℕ) (is_write : Bool) (serial : ℕ) (target : Target) → RestsIdle target → RestsIdle (sent_for place is_write serial target)

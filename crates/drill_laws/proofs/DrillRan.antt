@@ -39,7 +39,7 @@ use Rattle.drill_laws.proofs.DrillCalm.{drills_are_calm}
 use Rattle.drill_laws.proofs.DrillDisk.{commands_pass}
 use Rattle.drill_laws.proofs.DrillUnits.{LeavesUnits, note_keeps, over_keeps, ran_keeps}
 
--- ---- what ORBs ask for
+-- ---- what ORBs ask for; and none is made a dummy
 pub record IsCommandOf (cdb : List ℕ) (buffer : NoteBuffer) : Type 0 where
   pub cmd : Cmd
   pub is : IsDrillCommand cmd
@@ -48,6 +48,7 @@ pub record IsCommandOf (cdb : List ℕ) (buffer : NoteBuffer) : Type 0 where
 
 abbrev pub CommandNote : Note → Type 0
 CommandNote (notes.Append i n k cdb buffer) = IsCommandOf cdb buffer
+CommandNote (notes.Dummied i n k) = ⊥
 CommandNote note = Unit {0}
 
 abbrev AreCommands : List Note → Type 0
@@ -71,6 +72,7 @@ append_commands i n k cmd is = (record { cmd = cmd; is = is; cdb_is = refl; buff
 
 effect_command : (note : Note) → is_effect note ≡ true → CommandNote note
 effect_command (notes.Append i n k cdb buffer) e = absurd (cc e)
+effect_command (notes.Dummied i n k) e = absurd (cc e)
 effect_command _ e = tt
 
 lowest_commands : (past : List Moment) (told : List Note) → AreLowest past told → AreCommands told

@@ -96,7 +96,7 @@ IsMore [] = ⊥
 IsMore (moment ∷ []) = ⊥
 IsMore (moment ∷ next ∷ past) = Unit {0}
 
-more : (moment : Moment) (past : List Moment) → IsMore past → IsMore (moment ∷ past)
+pub more : (moment : Moment) (past : List Moment) → IsMore past → IsMore (moment ∷ past)
 more moment [] m = absurd m
 more moment (next ∷ past) m = tt
 
@@ -105,7 +105,7 @@ pub record Stands (past : List Moment) : Type 0 where
   pub idle : (i : ℕ) → i < 2 → IsIdle (host_at past i)
   pub lives : (i : ℕ) → i < 2 → IsLive (host_at past i)
 
-later_of : (note : Note) (past : List Moment) → IsMore past → DrillAt (said note) past → IsLater note
+pub later_of : (note : Note) (past : List Moment) → IsMore past → DrillAt (said note) past → IsLater note
 later_of (notes.Begin initiators ready) past m d = subst IsMore d.past_is m
 later_of (notes.TimedOut serial) past m d = cc d
 later_of (notes.Seen node generation) past m d = cc d
@@ -113,7 +113,7 @@ later_of (notes.Key unit) past m d = cc d
 later_of notes.Tick past m d = cc d
 later_of _ past m d = tt
 
-stands_told : (told : List Note) (past : List Moment) → EachMoment DrillAt (map said told ++ past) → EachMoment IsCalmAt (map said told ++ past) → EachMoment IsAliveAt (map said told ++ past) → Stands past → Stands (map said told ++ past)
+pub stands_told : (told : List Note) (past : List Moment) → EachMoment DrillAt (map said told ++ past) → EachMoment IsCalmAt (map said told ++ past) → EachMoment IsAliveAt (map said told ++ past) → Stands past → Stands (map said told ++ past)
 stands_told [] past d calm alive s = s
 stands_told (note ∷ told) past d calm alive s =
     let was = stands_told told past d.1 calm.1 alive.1 s in

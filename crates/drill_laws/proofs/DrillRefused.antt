@@ -4,6 +4,8 @@ use Rattle.std.specs.List.{AllByRecursion}
 use Rattle.std.proofs.lemmas.Bool.Decides.{nat_tests}
 use Rattle.std.proofs.lemmas.List.{reverse-reverse}
 use Rattle.orb_layout.specs.StatusBlocks.{row_of}
+use Rattle.orb_layout.specs.declared.status.StatusKind.{StatusKind}
+use Rattle.orb_layout.specs.declared.status.StatusKind.TheVariants as kinds
 use Rattle.rbc_disk.specs.Disk.{Disk}
 use Rattle.sbp_base.specs.Update.{upd2}
 use Rattle.sbp_journal.proofs.Each.{all_append}
@@ -19,32 +21,29 @@ use Rattle.sbp_journal.specs.declared.note.Note.TheVariants as notes
 use Rattle.sbp_laws.specs.ActionLaw.{ActsOr, Brings, BringsEach}
 use Rattle.sbp_laws.specs.Actions.{action_body, append_notes, cuts_list, is_mid_link, is_right_state, is_waiting, lacks_label, new_list, new_number, refusal_at, running_operation}
 use Rattle.sbp_laws.specs.Budget.{settle_deliveries}
-use Rattle.sbp_laws.specs.CauseLaw.{AbortedAt}
 use Rattle.sbp_laws.specs.Deliveries.{AreLowest, EndsSettle, is_effect}
-use Rattle.sbp_laws.specs.ExecutionLaw.{ExecutionLaw}
 use Rattle.sbp_laws.specs.Hosts.{host_at, is_stuck}
-use Rattle.sbp_laws.specs.Lawful.{FormAt, nobody}
+use Rattle.sbp_laws.specs.Lawful.{nobody}
 use Rattle.sbp_laws.specs.Lists.{linked, lowest_vacant, present_list, slots}
 use Rattle.sbp_laws.specs.StatusLaw.{TakenAt}
-use Rattle.sbp_laws.specs.Terms.{appends}
+use Rattle.sbp_laws.specs.Terms.{appends, ended_status}
 use Rattle.sbp_laws.specs.Turns.{EachMoment, effects_of, sends_of}
-use Rattle.drill_laws.specs.DrillGood.{RanWell}
 use Rattle.drill_laws.specs.DrillLines.{AreDrillLines, IsDrillLine}
 use Rattle.drill_laws.specs.DrillCalm.{IsCalmAt}
 use Rattle.drill_laws.specs.DrillRefused.{DrillsRefuseLittle, IsAliveAt, IsReadyFor, IsUnstuckAt, lack_at, refused_for}
 use Rattle.drill_laws.proofs.DrillCalm.{drills_are_calm}
-use Rattle.drill_laws.proofs.DrillGood.{FaultlessAt, all_faultless, begins_history, ended_good}
+use Rattle.drill_laws.proofs.DrillGood.{FaultlessAt, IsFault, all_faultless, begins_history}
 use Rattle.drill_laws.proofs.DrillMoments.{DrillAt, drill_moments}
 use Rattle.drill_laws.proofs.DrillReady.{all_stand}
 use Rattle.drill_laws.proofs.DrillRung.{behind, behind-append, behind_latest}
 
 -- ---- what is appended is linked
-abbrev is_other : Note → Bool
+abbrev pub is_other : Note → Bool
 is_other (notes.Append i n k cdb buffer) = false
 is_other (notes.Linked i n k) = false
 is_other _ = true
 
-abbrev AreOther : List Note → Type 0
+abbrev pub AreOther : List Note → Type 0
 AreOther told = AllByRecursion (λ note. is_other note ≡ true) told
 
 record IsSame (past later : List Moment) : Type 0 where
@@ -73,11 +72,20 @@ effect_other (notes.Append i n k cdb buffer) e = absurd (cc e)
 effect_other (notes.Linked i n k) e = absurd (cc e)
 effect_other _ e = refl
 
-lowest_other : (past : List Moment) (told : List Note) → AreLowest past told → AreOther told
+pub lowest_other : (past : List Moment) (told : List Note) → AreLowest past told → AreOther told
 lowest_other past [] h = tt
 lowest_other past (notes.Got serial ∷ rest) h = (refl, lowest_other _ rest h.1)
 lowest_other past (notes.Ignored serial cause ∷ rest) h = (refl, lowest_other _ rest h.1)
 lowest_other past (note ∷ rest) h = (effect_other note h.0, lowest_other _ rest h.1)
+
+-- a settle tells of no append
+pub settle_other : (disks : List Disk) (past : List Moment) (line : ℕ) (told : List Note) → Brings disks past line events.Settle told → AreOther told
+settle_other disks past line told h = subst AreOther (sym h.is) (all_append (λ note. is_other note ≡ true) h.before (h.last ∷ []) (lowest_other _ h.before h.delivers.lowest) (last_other (asked line events.Settle ∷ past) (settle_deliveries (asked line events.Settle ∷ past)) h.before h.last h.ends, tt))
+  where
+    last_other : (earlier : List Moment) (most : ℕ) (ns : List Note) (note : Note) → EndsSettle earlier most ns note → is_other note ≡ true
+    last_other earlier most ns notes.Settled h = refl
+    last_other earlier most ns notes.Stopped h = refl
+    last_other earlier most ns _ h = absurd h
 
 abbrev AreLinked : List Moment → Type 0
 AreLinked past = (i n : ℕ) → linked past i n ≡ appends past i n
@@ -110,14 +118,7 @@ line_linked disks past line (events.Act i (actions.Append cmd)) told is h all = 
         = ap (behind there) acts.first ∙ behind-append there (effects_of told) (sends_of told) ∙ ap (λ ns. behind (behind there ns) (sends_of told)) acts.effects in
         subst AreLinked (sym split)
         (stay_linked _ _ (all_other _ (sends_of told) (sends_other told)) (append_linked past i (new_list past i) (new_number past i) cmd line (events.Act i (actions.Append cmd)) refl all))
-line_linked disks past line events.Settle told is h all =
-    let other = subst AreOther (sym h.is) (all_append (λ note. is_other note ≡ true) h.before (h.last ∷ []) (lowest_other _ h.before h.delivers.lowest) (last_other (asked line events.Settle ∷ past) (settle_deliveries (asked line events.Settle ∷ past)) h.before h.last h.ends, tt)) in
-    stay_linked (asked line events.Settle ∷ past) _ (all_other (asked line events.Settle ∷ past) told other) all
-  where
-    last_other : (earlier : List Moment) (most : ℕ) (ns : List Note) (note : Note) → EndsSettle earlier most ns note → is_other note ≡ true
-    last_other earlier most ns notes.Settled h = refl
-    last_other earlier most ns notes.Stopped h = refl
-    last_other earlier most ns _ h = absurd h
+line_linked disks past line events.Settle told is h all = stay_linked (asked line events.Settle ∷ past) _ (all_other (asked line events.Settle ∷ past) told (settle_other disks past line told h)) all
 line_linked disks past line _ told is h all = absurd is
 
 pub all_linked : (disks : List Disk) (entries : List Entry) → BringsEach disks entries → AreDrillLines entries → AreLinked (history entries)
@@ -161,22 +162,36 @@ ready_of disks entries brings lines d calm alive i small =
     let stands = all_stand disks entries brings lines d calm alive in
     record { is_live = (stands.lives i small).session; idle = (stands.idle i small).operation; unmarked = (stands.lives i small).unmarked; linked_all = all_linked disks entries brings lines i }
 
--- ---- each status is good
-each_alive : (disks : List Disk) (past : List Moment) → RanWell past → EachMoment FaultlessAt past → ExecutionLaw nobody disks past → EachMoment (TakenAt nobody) past → EachMoment (AbortedAt disks) past → EachMoment FormAt past → EachMoment IsCalmAt past → EachMoment IsUnstuckAt past → EachMoment IsAliveAt past
-each_alive disks [] well fault run taken aborted form calm free = tt
-each_alive disks (said (notes.Taken i n k status answer) ∷ past) well fault run taken aborted form calm free =
-    let good = ended_good disks past well.1 fault.1 run.1 aborted.1 form.1 calm.1 i n k status (taken.0 refl).ended in
-    (subst (λ s. ((row_of s).dead == 1) ≡ false) (sym good) refl, each_alive disks past well.1 fault.1 run.1 taken.1 aborted.1 form.1 calm.1 free.1)
-each_alive disks (said (notes.Stuck i) ∷ past) well fault run taken aborted form calm free = absurd free.0
-each_alive disks (asked line event ∷ past) well fault run taken aborted form calm free = (tt, each_alive disks past well.1 fault.1 run.1 taken.1 aborted.1 form.1 calm.1 free.1)
-each_alive disks (said note ∷ past) well fault run taken aborted form calm free = (tt, each_alive disks past well.1 fault.1 run.1 taken.1 aborted.1 form.1 calm.1 free.1)
+-- ---- no status tells of a dead agent: an ORB that does ends behind a death alone
+plain_row : (i : ℕ) (list number : Option ℕ) (status : StatusKind) → IsFault (notes.Ended i list number status) ≡ false → ((row_of status).dead == 1) ≡ false
+plain_row i list number kinds.Failed fault = absurd (cc fault)
+plain_row i list number (kinds.Illegal meaning) fault = absurd (cc fault)
+plain_row i list number _ fault = refl
+
+ended_plain : (past : List Moment) → EachMoment FaultlessAt past → (i n k : ℕ) (status : StatusKind) → ended_status past i n k ≡ Some status → ((row_of status).dead == 1) ≡ false
+ended_plain [] fault i n k status e = absurd (let no : None ≡ Some status = e in cc no)
+ended_plain (said (notes.Ended j (Some m) (Some l) own) ∷ past) fault i n k status e = by (ended_plain past fault.1 i n k status) (plain_row j (Some m) (Some l) own fault.0) (nat_eq i j) (nat_eq n m) (nat_eq k l) e
+  where
+    by : (ended_status past i n k ≡ Some status → ((row_of status).dead == 1) ≡ false) → ((row_of own).dead == 1) ≡ false → (b c d : Bool) → cond b (cond c (cond d (Some own) (ended_status past i n k)) (ended_status past i n k)) (ended_status past i n k) ≡ Some status → ((row_of status).dead == 1) ≡ false
+    by old here true true true e = (let same : own ≡ status = cc e in subst (λ s. ((row_of s).dead == 1) ≡ false) same here)
+    by old here true true false e = old e
+    by old here true false d e = old e
+    by old here false c d e = old e
+ended_plain (_ ∷ past) fault i n k status e = ended_plain past fault.1 i n k status e
+
+each_alive : (past : List Moment) → EachMoment FaultlessAt past → EachMoment (TakenAt nobody) past → EachMoment IsUnstuckAt past → EachMoment IsAliveAt past
+each_alive [] fault taken free = tt
+each_alive (said (notes.Taken i n k status answer) ∷ past) fault taken free = (ended_plain past fault.1 i n k status (taken.0 refl).ended, each_alive past fault.1 taken.1 free.1)
+each_alive (said (notes.Stuck i) ∷ past) fault taken free = absurd free.0
+each_alive (asked line event ∷ past) fault taken free = (tt, each_alive past fault.1 taken.1 free.1)
+each_alive (said note ∷ past) fault taken free = (tt, each_alive past fault.1 taken.1 free.1)
 
 pub drills_refuse_little : DrillsRefuseLittle
 drills_refuse_little = record {
-  alive = λ disks entries lawful keeps well free.
+  alive = λ disks entries lawful lists living free.
       let past : List Moment = history entries in
-      let fault = (all_faultless disks past [] (begins_history entries lawful.run.lines) well tt lawful.causes).each in
-      each_alive disks past well fault keeps.lists.execution keeps.lists.status.taken keeps.aborted keeps.form (drills_are_calm disks entries lawful).calm free;
+      let fault = (all_faultless disks past [] (begins_history entries lawful.run.lines) living tt lawful.causes).each in
+      each_alive past fault lists.status.taken free;
   ready = λ disks entries lawful alive i small.
       let run = lawful.run in
       ready_of disks entries run.brings run.lines (drill_moments disks entries run.brings run.lines) (drills_are_calm disks entries lawful).calm alive i small;

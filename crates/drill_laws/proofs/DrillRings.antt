@@ -120,6 +120,13 @@ label_fits : (bytes : List ℕ) → label_of bytes < 2 ^ 6
 unfolding label_of
 label_fits bytes = omega arith
 
+-- what it asks for
+pub pointer_asks : (bytes payload : List ℕ) (source destination offset : ℕ) → source < 2 ^ 16 → destination < 2 ^ 16 → offset < 2 ^ 48 → length payload ≤ largest → bytes ≡ canon (write_block (header_to source destination (label_of bytes)) offset payload)
+    → access_in_bytes bytes ≡ access_of (write_block (header_to source destination (label_of bytes)) offset payload)
+pointer_asks bytes payload source destination offset s d o l e =
+    let h = header_to source destination (label_of bytes) in
+    reads_canon bytes (write_block h offset payload) (header_fits source destination (label_of bytes) s d (label_fits bytes), o, l) e
+
 -- of ORB_POINTER
 pub pointer_harmless : (bytes payload : List ℕ) (source destination offset : ℕ) → source < 2 ^ 16 → destination < 2 ^ 16 → offset < 2 ^ 48 → length payload ≤ largest → IsRing offset → bytes ≡ canon (write_block (header_to source destination (label_of bytes)) offset payload) → AreHarmless bytes
 pointer_harmless bytes payload source destination offset s d o l ring e =
@@ -138,6 +145,13 @@ low_quad x =
 four_low : (a b c d : ℕ) → four a b c d ≡ four a b c (d % 2 ^ 32)
 unfolding four
 four_low a b c d = ap (λ (q : List ℕ). big_bytes 4 a ++ (big_bytes 4 b ++ (big_bytes 4 c ++ q))) (low_quad d)
+
+pub bell_asks : (bytes : List ℕ) (source destination offset value : ℕ) → source < 2 ^ 16 → destination < 2 ^ 16 → offset < 2 ^ 48 → bytes ≡ canon (write_quadlet (header_to source destination (label_of bytes)) offset value)
+    → access_in_bytes bytes ≡ access_of (write_quadlet (header_to source destination (label_of bytes)) offset (value % 2 ^ 32))
+bell_asks bytes source destination offset value s d o e =
+    let h = header_to source destination (label_of bytes) in
+    let valid : IsValid (write_quadlet h offset (value % 2 ^ 32)) = (header_fits source destination (label_of bytes) s d (label_fits bytes), o, omega arith) in
+    reads_canon bytes (write_quadlet h offset (value % 2 ^ 32)) valid (e ∙ four_low _ _ _ value)
 
 pub bell_harmless : (bytes : List ℕ) (source destination offset value : ℕ) → source < 2 ^ 16 → destination < 2 ^ 16 → offset < 2 ^ 48 → IsRing offset → bytes ≡ canon (write_quadlet (header_to source destination (label_of bytes)) offset value) → AreHarmless bytes
 bell_harmless bytes source destination offset value s d o ring e =

@@ -1,6 +1,7 @@
 -- A run over the generated script is a drill, and ends as one.
-use Rattle.std.proofs.Common.{◌≡◌, ◌∙◌, ◌⊎◌, inl, inr, refl, sym, ap, subst, ℕ, suc, ◌≤◌, true, List, [], ◌∷◌, ◌++◌, Some, arith}
+use Rattle.std.proofs.Common.{◌≡◌, ◌∙◌, ◌⊎◌, inl, inr, refl, sym, ap, subst, ℕ, suc, ◌≤◌, true, List, [], ◌∷◌, ◌++◌, Option, Some, None, arith}
 use Rattle.std.specs.List.{AllByRecursion}
+use Rattle.rbc_disk.specs.Disk.{Disk, blocks_at}
 use Rattle.sbp_journal.specs.Run.{Entry, Run, history}
 use Rattle.sbp_journal.specs.declared.event.Event.{Event}
 use Rattle.sbp_journal.specs.declared.event.Event.TheVariants as events
@@ -9,25 +10,28 @@ use Rattle.sbp_laws.specs.Lawful.{Lawful}
 use Rattle.sbp_laws.specs.OnLists.{LawfulOnLists}
 use Rattle.sbp_laws.specs.Lawful.{nobody}
 use Rattle.script_text.specs.Drill.{generated, turns}
-use Rattle.drill_text.specs.Tally.{is_append, is_taken}
+use Rattle.drill_laws.specs.DrillBlocks.{HoldsLast, KeepsBlocks, last_of_its}
 use Rattle.drill_laws.specs.DrillCalm.{IsLawfulDrill}
-use Rattle.drill_laws.specs.DrillGood.{KeepsLists}
+use Rattle.drill_laws.specs.DrillGood.{KeepsLists, RanWell}
 use Rattle.drill_laws.specs.DrillLines.{AreDrillLines, IsDrillLine, append_lines}
 use Rattle.drill_laws.specs.DrillRan.{RunsWell}
-use Rattle.drill_laws.specs.DrillRuns.{DrillsEnd, EndsDrill, KeepsLaws, NobodyInjects}
+use Rattle.drill_laws.specs.DrillRuns.{DrillsEnd, EndsDrill, KeepsLaws, NobodyInjects, RunsOverGood}
 use Rattle.drill_laws.specs.DrillScripts.{last_of}
 use Rattle.drill_laws.specs.DrillSettles.{IsDrillRun, RestsBehind, events_said}
+use Rattle.drill_laws.specs.DrillWrites.{HoldsLines, last_line}
 use Rattle.drill_laws.proofs.DrillBlocks.{drills_write_blocks}
 use Rattle.drill_laws.proofs.DrillCalm.{drills_are_calm}
-use Rattle.drill_laws.proofs.DrillCounts.{appended_or_refused, told_is}
+use Rattle.drill_laws.proofs.DrillDone.{drills_are_done}
 use Rattle.drill_laws.proofs.DrillGood.{drills_are_good}
 use Rattle.drill_laws.proofs.DrillLegal.{all_legal}
 use Rattle.drill_laws.proofs.DrillMoments.{drill_moments}
-use Rattle.drill_laws.proofs.DrillRan.{drills_run_well}
+use Rattle.drill_laws.proofs.DrillRan.{all_commands, drills_run_well}
+use Rattle.drill_laws.proofs.DrillRoom.{drills_append_all}
+use Rattle.drill_laws.proofs.DrillRung.{rung_up}
 use Rattle.drill_laws.proofs.DrillScripts.{last-append, said_with, scripts_are_drills}
 use Rattle.drill_laws.proofs.DrillSettles.{drills_settle}
 use Rattle.drill_laws.proofs.DrillTaken.{drills_take_all}
-use Rattle.drill_laws.proofs.DrillTakings.{takings_law}
+use Rattle.drill_laws.proofs.DrillThere.{none_dummied, ran_there, ran_well, undummied}
 use Rattle.drill_laws.proofs.DrillWire.{drills_are_quiet}
 use Rattle.drill_laws.proofs.DrillWrites.{lines_write_blocks}
 
@@ -83,6 +87,18 @@ rests (entry ∷ before) lines e last r =
     let settles : Some entry.event ≡ Some events.Settle = sym own ∙ ap last_of e ∙ last_begins lines events.Settle last in
     r (some_event entry.event events.Settle settles)
 
+-- ---- its blocks
+by_lines : (disks : List Disk) (start : List ℕ) (entries : List Entry) → ((i block : ℕ) → last_of_its (history entries) i block ≡ last_line i block None (events_said entries)) → KeepsBlocks disks start (history entries) → HoldsLines disks start entries
+by_lines disks start entries same kept = record {
+  bytes = kept.bytes;
+  is = kept.is;
+  size = kept.size;
+  blocks = λ block.
+      let Holds : Option (List ℕ) → Option (List ℕ) → Type 0 = λ first second. HoldsLast first second (blocks_at block 1 start) (blocks_at block 1 kept.bytes) in
+      let second = subst (Holds (last_of_its (history entries) 0 block)) (same 1 block) (kept.blocks block) in
+      subst (λ first. Holds first (last_line 1 block None (events_said entries))) (same 0 block) second;
+}
+
 -- ---- all of it
 ends_so : (seed count : ℕ) (run : Run) → suc count ≤ 10000 → KeepsLaws run → events_said run.entries ≡ generated seed (suc count) → EndsDrill (suc count) run
 ends_so seed count run few keeps events_are =
@@ -111,27 +127,47 @@ ends_so seed count run few keeps events_are =
       causes = lawful.moments.cause.causes;
       logins = lawful.moments.login;
       judges = lawful.moments.judgement;
+      asked = lawful.moments.sent.asked;
+      pushes = lawful.moments.media;
     } in
     let lists : LawfulOnLists nobody run.start (history entries) = record { order = lawful.moments.order; execution = lawful.moments.execution; status = lawful.moments.status } in
     let keeps_lists : KeepsLists run.start (history entries) = record { lists = lists; form = lawful.moments.form; aborted = lawful.moments.cause.aborted } in
+    let past = history entries in
+    let moments = drill_moments run.start entries keeps.action.brings lines in
     let rest = drills_settle run.start entries drill in
+    let still = rests entries script events_are (scripts_are_drills.settles count 1 seed) rest.at_rest in
+    let legal = all_legal past moments in
+    let done = drills_are_done.done run.start entries
+    (record { seed = seed; count = suc count; script = events_are; lawful = whole; lists = lists; answers = keeps.answers; rests = keeps.rests; rung = keeps.rung nobody_injects legal; still = still }) in
+    let none = drills_append_all.none_refused run.start entries whole done.alive done.room in
+    let appended = drills_append_all.all_appended run.start entries whole done.alive done.room ∙ appends in
+    let taken = drills_take_all run.start entries whole lists done.taken ∙ appended in
+    let inside = (rung_up run.start entries keeps.action.brings lines).inside in
+    let kept = keeps.kept nobody_injects in
+    let there = ran_there run.start past moments keeps.packets keeps.judged inside lists.order lists.execution kept.units in
+    let none_dummy = none_dummied past (all_commands run.start entries keeps.action.brings lines) in
+    let plain = undummied past inside lists.order (kept.none_dummy 0 (omega arith) (none_dummy 0)) (kept.none_dummy 1 (omega arith) (none_dummy 1)) in
+    let well : RunsOverGood run → RunsWell run.start past = λ over.
+    subst (λ disks. RunsWell disks past) (sym over.is)
+    (drills_run_well.well over.first over.others entries (subst (λ disks. IsLawfulDrill disks entries) over.is whole) (subst (λ disks. LawfulOnLists nobody disks past) over.is lists) over.healthy (there over.unfailed)) in
+    let all_well : RunsOverGood run → RanWell past = λ over. ran_well past done.deathless plain (well over).unchecked in
     record {
-      appended = appended_or_refused run.start entries keeps.action.brings lines ∙ appends;
+      appended = appended;
+      refused = none;
+      taken = taken;
       quiet = quiet;
       settled = rest.settled;
-      still = rests entries script events_are (scripts_are_drills.settles count 1 seed) rest.at_rest;
+      still = still;
       calm = drills_are_calm run.start entries whole;
-      most = (let counted = takings_law.counted run.start (history entries) lists in let a = told_is is_append entries in let b = told_is is_taken entries in omega (arith, counted, a, b));
-      legal = all_legal (history entries) (drill_moments run.start entries keeps.action.brings lines);
-      well = λ start_first others start_is healthy there.
-          subst (λ disks. RunsWell disks (history entries)) (sym start_is)
-          (drills_run_well.well start_first others entries (subst (λ disks. IsLawfulDrill disks entries) start_is whole) (subst (λ disks. LawfulOnLists nobody disks (history entries)) start_is lists) healthy there);
-      good = drills_are_good.good run.start entries whole keeps_lists;
-      taken = drills_take_all run.start entries whole lists;
-      blocks = λ start_first others start_is.
-          let both : IsLawfulDrill (start_first ∷ others) entries × KeepsLists (start_first ∷ others) (history entries) = subst (λ disks. IsLawfulDrill disks entries × KeepsLists disks (history entries)) start_is (whole, keeps_lists) in
-          drills_write_blocks.blocks start_first others entries both.0 both.1;
-      lines = lines_write_blocks.lines run.start entries whole;
+      deathless = done.deathless;
+      legal = legal;
+      there = there;
+      well = well;
+      good = λ over. drills_are_good.good run.start entries whole keeps_lists (all_well over) ∙ taken;
+      blocks = λ over start has.
+          let both : IsLawfulDrill (over.first ∷ over.others) entries × KeepsLists (over.first ∷ over.others) past = subst (λ disks. IsLawfulDrill disks entries × KeepsLists disks past) over.is (whole, keeps_lists) in
+          let kept_there = drills_write_blocks.blocks over.first over.others entries both.0 both.1 start has (record { there = there over.unfailed; well = all_well over; taken = done.taken }) in
+          subst (λ disks. HoldsLines disks start entries) (sym over.is) (by_lines (over.first ∷ over.others) start entries (lines_write_blocks.lines run.start entries whole none) kept_there);
     }
 
 pub drills_end : DrillsEnd

@@ -51,7 +51,7 @@ turn_of_appends x1 x2 x3 =
       | false ↦ refl
     ]
 
-turn_appends : (x : ℕ) → is_append_line (turn x).event ≡ true
+pub turn_appends : (x : ℕ) → is_append_line (turn x).event ≡ true
 unfolding turn
 turn_appends x = turn_of_appends (next x) (next (next x)) (next (next (next x)))
 

@@ -39,7 +39,7 @@ judged_before (said (notes.Got s) ∷ later) earlier j = judged_before later ear
 judged_before (said (notes.Ignored s cause) ∷ later) earlier j = judged_before later earlier j.1
 judged_before (_ ∷ later) earlier j = judged_before later earlier j
 
-lines_split : (entry : Entry) (before : List Entry) → append_lines (events_said (entry ∷ before)) ≡ append_lines (events_said before) + cond (is_append_line entry.event) 1 0
+pub lines_split : (entry : Entry) (before : List Entry) → append_lines (events_said (entry ∷ before)) ≡ append_lines (events_said before) + cond (is_append_line entry.event) 1 0
 lines_split entry before =
     let split = ap append_lines (map-append (λ one. one.1) (events_in before) ((entry.line, entry.event) ∷ [])) ∙ append_lines-append (events_said before) (entry.event ∷ []) in
     let one : append_lines (entry.event ∷ []) ≡ cond (is_append_line entry.event) 1 0 = omega arith in

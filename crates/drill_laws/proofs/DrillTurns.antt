@@ -61,6 +61,14 @@ abbrev pub IsFineSent : Note → Type 0
 IsFineSent (notes.Sent serial generation from to bytes) = IsFine from to bytes
 IsFineSent note = Unit {0}
 
+-- such a packet that is no request: an answer to the target
+abbrev pub IsBackSent : Note → Type 0
+IsBackSent (notes.Sent serial generation from to bytes) = to ≡ 0 → (from ≡ 0 → ⊥) × (32 ≤ code_byte bytes)
+IsBackSent note = Unit {0}
+
+abbrev pub AreBack : List Note → Type 0
+AreBack told = AllByRecursion IsBackSent told
+
 -- a note that tells of no operation, and of no packet but such a one
 pub record IsFineNote (note : Note) : Type 0 where
   pub calm : IsCalmNote note
@@ -74,7 +82,7 @@ abbrev IsStuckNote : Note → Type 0
 IsStuckNote (notes.Stuck i) = Unit {0}
 IsStuckNote note = ⊥
 
-none_of : (kind : Note → Bool) (rest : List Note) → of_kind kind rest ≡ [] → AllByRecursion (λ note. kind note ≡ false) rest
+pub none_of : (kind : Note → Bool) (rest : List Note) → of_kind kind rest ≡ [] → AllByRecursion (λ note. kind note ≡ false) rest
 none_of kind [] e = tt
 none_of kind (note ∷ rest) e = by (kind note) refl (none_of kind rest) e
   where
@@ -94,6 +102,16 @@ sends_fine : (rest : List Note) → AllByRecursion IsFineSent (sends_of rest) �
 sends_fine [] all = tt
 sends_fine (notes.Sent serial generation from to bytes ∷ rest) all = (all.0, sends_fine rest all.1)
 sends_fine (_ ∷ rest) all = (tt, sends_fine rest all)
+
+back_fine : (sent : List Note) → AreBack sent → AllByRecursion IsFineSent sent
+back_fine [] all = tt
+back_fine (notes.Sent serial generation from to bytes ∷ rest) all = ((λ e. let b = all.0 e in (b.0, inl b.1)), back_fine rest all.1)
+back_fine (_ ∷ rest) all = (tt, back_fine rest all.1)
+
+sends_back : (rest : List Note) → AreBack (sends_of rest) → AreBack rest
+sends_back [] all = tt
+sends_back (notes.Sent serial generation from to bytes ∷ rest) all = (all.0, sends_back rest all.1)
+sends_back (_ ∷ rest) all = (tt, sends_back rest all)
 
 -- a note of none of these kinds
 calm_note : (note : Note) → is_cut_note note ≡ false → is_cleared_note note ≡ false → is_login_note note ≡ false → is_decision_note note ≡ false → is_failure_note note ≡ false → (is_operation_note note ≡ true → IsStuckNote note) → IsCalmNote note
@@ -227,7 +245,7 @@ asked_to true (quadlet_read offset) wire node want serial generation from to byt
 asked_to true (block_read offset size) wire node want serial generation from to bytes h = h.receiver
 asked_to false body wire node want serial generation from to bytes h = h.receiver
 
-packets_away : (past : List Moment) (node : ℕ) (sent : List Note) (wants : List Request) → AreAway wants → ArePackets past node sent wants → AllByRecursion IsFineSent sent
+packets_away : (past : List Moment) (node : ℕ) (sent : List Note) (wants : List Request) → AreAway wants → ArePackets past node sent wants → AreBack sent
 packets_away past node [] [] away h = tt
 packets_away past node (notes.Sent serial generation from to bytes ∷ rest) (want ∷ wants) away h =
     ((λ e. absurd (away.0 (sym (asked_to want.is_untold want.body (terms past) node want serial generation from to bytes h.0) ∙ e))), packets_away _ node rest wants away.1 h.1)
@@ -237,7 +255,7 @@ packets_away past node (_ ∷ rest) [] away h = absurd h
 packets_away past node (_ ∷ rest) (want ∷ wants) away h = absurd h
 
 -- its first packets
-begins_split : (due sent : List Note) → Begins due sent → sent ≡ due ++ drop (length due) sent
+pub begins_split : (due sent : List Note) → Begins due sent → sent ≡ due ++ drop (length due) sent
 begins_split [] sent h = refl
 begins_split (note ∷ due) [] h = absurd h
 begins_split (note ∷ due) (first ∷ sent) h = ap (λ n. n ∷ sent) h.0 ∙ ap (λ ns. note ∷ ns) (begins_split due sent h.1)
@@ -302,10 +320,10 @@ module _ (start : List Disk) (past : List Moment) (serial : ℕ) (rest : List No
   stuck_alone i true = (tt, tt)
   stuck_alone i false = tt
 
-  answers_end : (host : Host) (own : ℕ) (answer : Answer) (present : Option ℕ) → IsIdle host → end_by_answer host own answer present ≡ None
+  pub answers_end : (host : Host) (own : ℕ) (answer : Answer) (present : Option ℕ) → IsIdle host → end_by_answer host own answer present ≡ None
   answers_end host own answer present h = ap (λ o. or_end (operation_answered o own answer host) (read_ends host.reads own answer present)) h.operation ∙ ap (λ r. read_ends r own answer present) h.reads
 
-  writes_end : (host : Host) (found : Option Access) → IsIdle host → end_by_write host found ≡ None
+  pub writes_end : (host : Host) (found : Option Access) → IsIdle host → end_by_write host found ≡ None
   writes_end host None h = refl
   writes_end host (Some access) h = by (access.is_write && access.is_block && is_fifo access.offset)
     where
@@ -329,23 +347,23 @@ module _ (start : List Disk) (past : List Moment) (serial : ℕ) (rest : List No
       by (Some (suc i)) = got_stuck i (answered_at wire serial)
 
   -- ---- what it sends
-  answer_fine : (sending : Sending) (rcode : ℕ) (given : List ℕ) (packet : Option Packet) → wire.sent serial ≡ Some sending → AllByRecursion IsFineSent (answer_packet wire sending rcode given packet)
+  answer_fine : (sending : Sending) (rcode : ℕ) (given : List ℕ) (packet : Option Packet) → wire.sent serial ≡ Some sending → AreBack (answer_packet wire sending rcode given packet)
   answer_fine sending rcode given None e = tt
   answer_fine sending rcode given (Some packet) e =
-      ((λ back. ((λ own. absurd ((calm.sent serial sending e own).0 back)), inl (responses_high (id_of wire sending.to) packet rcode given))), tt)
+      ((λ back. ((λ own. absurd ((calm.sent serial sending e own).0 back)), responses_high (id_of wire sending.to) packet rcode given)), tt)
 
-  answers_fine : AllByRecursion IsFineSent (answer_due start t (said (notes.Got serial)))
+  answers_fine : AreBack (answer_due start t (said (notes.Got serial)))
   answers_fine = by (wire.sent serial) refl
     where
-      by_reply : (sending : Sending) → wire.sent serial ≡ Some sending → (reply : Option Reply) → AllByRecursion IsFineSent (reply_packet wire sending reply)
+      by_reply : (sending : Sending) → wire.sent serial ≡ Some sending → (reply : Option Reply) → AreBack (reply_packet wire sending reply)
       by_reply sending e None = tt
       by_reply sending e (Some reply) = answer_fine sending reply.rcode reply.given (packet_in (Some sending)) e
 
-      by_part : (sending : Sending) → wire.sent serial ≡ Some sending → (b : Bool) → AllByRecursion IsFineSent (cond b (reply_packet wire sending (reply_in start t sending.to (access_in (packet_in (Some sending))))) [])
+      by_part : (sending : Sending) → wire.sent serial ≡ Some sending → (b : Bool) → AreBack (cond b (reply_packet wire sending (reply_in start t sending.to (access_in (packet_in (Some sending))))) [])
       by_part sending e true = by_reply sending e _
       by_part sending e false = tt
 
-      by : (found : Option Sending) → wire.sent serial ≡ found → AllByRecursion IsFineSent (answers_to start t found)
+      by : (found : Option Sending) → wire.sent serial ≡ found → AreBack (answers_to start t found)
       by None e = tt
       by (Some sending) e = by_part sending e (is_answered (part_of sending.bytes))
 
@@ -378,11 +396,14 @@ module _ (start : List Disk) (past : List Moment) (serial : ℕ) (rest : List No
           (away_append (manager_requests before t) _ managers_away (pushes_away before (wire_after t) (logins_told before t)))
       by (Some (suc i)) = by_own i (answered_at wire serial)
 
-  got_sends : AnswersLaw start t → RequestsLaw start t → AllByRecursion IsFineSent (sends_of rest)
+  got_sends : AnswersLaw start t → RequestsLaw start t → AreBack (sends_of rest)
   got_sends begins asks =
-      subst (AllByRecursion IsFineSent) (sym (begins_split (answer_due start t (said (notes.Got serial))) (sends_of rest) begins))
-      (all_append IsFineSent (answer_due start t (said (notes.Got serial))) (behind_answer start t) answers_fine
+      subst (AreBack) (sym (begins_split (answer_due start t (said (notes.Got serial))) (sends_of rest) begins))
+      (all_append IsBackSent (answer_due start t (said (notes.Got serial))) (behind_answer start t) answers_fine
       (packets_away (before_requests start t) (asks_by start t (said (notes.Got serial))).node (behind_answer start t) (asks_by start t (said (notes.Got serial))).requests requests_away (asks refl)))
+
+  pub got_back : AnswersLaw start t → RequestsLaw start t → AreBack rest
+  got_back begins asks = sends_back rest (got_sends begins asks)
 
   pub got_fine : HasCauses start t → HasLogins start t → AnswersLaw start t → RequestsLaw start t → AreFine rest
   got_fine causes logins begins asks = fine_all rest (record {
@@ -392,7 +413,7 @@ module _ (start : List Disk) (past : List Moment) (serial : ℕ) (rest : List No
     decisions = logins.decisions ∙ ap (λ (c : Call). decided_in (operator_for c wire before) (manager_turn c before)) call_none;
     failures = causes.failures ∙ ap (λ (c : Call). failed_in (operator_for c wire before) (finds_label (wire_after t) 0 (suc (operator_for c wire before))) (manager_turn c before)) call_none;
     operations = subst (AllByRecursion IsStuckNote) (sym causes.operations) operations_stuck;
-    sends = got_sends begins asks;
+    sends = back_fine (sends_of rest) (got_sends begins asks);
   })
     where
       cuts_none : cuts_due start before t ≡ []
@@ -412,6 +433,14 @@ module _ (start : List Disk) (past : List Moment) (serial : ℕ) (rest : List No
       by (Some sending) e None = tt
       by (Some sending) e (Some rcode) = fine_packet sending rcode (packet_in (Some sending)) e
 
+  pub ignored_back : (cause : Cause) → Judges start (turn past (said (notes.Ignored serial cause)) rest) → AreBack rest
+  ignored_back cause judges = subst AreBack (sym judges.1) (by (wire.sent serial) refl (verdict_of start (turn past (said (notes.Ignored serial cause)) rest) serial).rcode)
+    where
+      by : (found : Option Sending) → wire.sent serial ≡ found → (rcode : Option ℕ) → AreBack (ignored_rest wire found rcode)
+      by None e rcode = tt
+      by (Some sending) e None = tt
+      by (Some sending) e (Some rcode) = answer_fine sending rcode [] (packet_in (Some sending)) e
+
 -- ---- a turn in which nobody is to do anything
 abbrev pub AsksNone : Moment → Type 0
 AsksNone (said notes.Settled) = Unit {0}
@@ -419,7 +448,7 @@ AsksNone (said notes.Stopped) = Unit {0}
 AsksNone (asked line events.Settle) = Unit {0}
 AsksNone moment = ⊥
 
-none_sent : (past : List Moment) (node : ℕ) (sent : List Note) → ArePackets past node sent [] → sent ≡ []
+pub none_sent : (past : List Moment) (node : ℕ) (sent : List Note) → ArePackets past node sent [] → sent ≡ []
 none_sent past node [] h = refl
 none_sent past node (notes.Sent serial generation from to bytes ∷ rest) h = absurd h
 none_sent past node (_ ∷ rest) h = absurd h
@@ -435,3 +464,9 @@ quiet_fine start past (asked line events.Settle) rest is causes logins asks =
     let none : drop 0 (sends_of rest) ≡ [] = none_sent _ 0 (drop 0 (sends_of rest)) (asks refl) in
     fine_all rest (record { cuts = causes.cuts; cleared = causes.cleared; logins = logins.logins; decisions = logins.decisions; failures = causes.failures; operations = subst (AllByRecursion IsStuckNote) (sym causes.operations) tt; sends = subst (AllByRecursion IsFineSent) (sym none) tt })
 quiet_fine start past _ rest is causes logins asks = absurd is
+
+pub quiet_back : (start : List Disk) (past : List Moment) (moment : Moment) (rest : List Note) → AsksNone moment → RequestsLaw start (turn past moment rest) → AreBack rest
+quiet_back start past (said notes.Settled) rest is asks = sends_back rest (let none : drop 0 (sends_of rest) ≡ [] = none_sent _ 0 (drop 0 (sends_of rest)) (asks refl) in subst AreBack (sym none) tt)
+quiet_back start past (said notes.Stopped) rest is asks = sends_back rest (let none : drop 0 (sends_of rest) ≡ [] = none_sent _ 0 (drop 0 (sends_of rest)) (asks refl) in subst AreBack (sym none) tt)
+quiet_back start past (asked line events.Settle) rest is asks = sends_back rest (let none : drop 0 (sends_of rest) ≡ [] = none_sent _ 0 (drop 0 (sends_of rest)) (asks refl) in subst AreBack (sym none) tt)
+quiet_back start past _ rest is asks = absurd is

@@ -132,7 +132,7 @@ closes_keeps (waits kind s) u other rcode t = closes_if_keeps (is_same_kind kind
 closes_keeps free u other rcode t = refl
 closes_keeps rests u other rcode t = refl
 
-gets_keeps : (part : Part) (s : ℕ) (q : Sending) (t : Terms) → parts (gets_as part s q t) ≡ parts t
+pub gets_keeps : (part : Part) (s : ℕ) (q : Sending) (t : Terms) → parts (gets_as part s q t) ≡ parts t
 gets_keeps (request label kind) s q t = judges_keeps (asked_by q) None s q t
 gets_keeps (response label kind) s q t = closes_keeps (t.held (between q q.to q.from label)) (between q q.to q.from label) kind (rcode_of q.bytes) t
 gets_keeps no_packet s q t = refl
@@ -141,7 +141,7 @@ judges_if_keeps : (b : Bool) (u : Option Transaction) (s : ℕ) (q : Sending) (t
 judges_if_keeps true u s q t = judges_keeps u (Some causes.Grammar) s q t
 judges_if_keeps false u s q t = refl
 
-ignores_keeps : (cause : Cause) (s : ℕ) (q : Sending) (t : Terms) → parts (ignores cause s q t) ≡ parts t
+pub ignores_keeps : (cause : Cause) (s : ℕ) (q : Sending) (t : Terms) → parts (ignores cause s q t) ≡ parts t
 ignores_keeps causes.Generation s q t = refl
 ignores_keeps causes.Grammar s q t = judges_if_keeps (is_to q.bytes (t.ids q.generation q.to)) (asked_by q) s q (is_news s t)
 ignores_keeps causes.Label s q t = refl

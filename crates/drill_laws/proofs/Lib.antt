@@ -29,3 +29,39 @@ pub mod DrillRefused
 pub mod DrillRoom
 pub mod DrillSlots
 pub mod DrillApart
+mod DrillDies
+mod DrillAgents
+mod DrillKeeps
+mod DrillReplies
+mod DrillOwners
+mod DrillMild
+mod DrillPushes
+mod DrillLive
+mod DrillStands
+pub mod DrillFew
+pub mod DrillDone
+mod DrillThere
+mod DrillPending
+mod DrillSits
+pub mod DrillSlotsLeft
+mod DrillLabels
+pub mod DrillLabelsLeft
+mod DrillLast
+mod DrillFresh
+mod DrillHolds
+pub mod DrillRests
+mod DrillFreshLines
+mod DrillAgentsFresh
+mod DrillTable
+mod DrillRingReplies
+mod DrillPackets
+mod DrillServes
+mod DrillArrives
+mod DrillSends
+mod DrillServed
+mod DrillGots
+mod DrillIgnores
+mod DrillRinging
+mod DrillSettling
+mod DrillActing
+pub mod DrillStuck

@@ -8,9 +8,11 @@ use Rattle.sbp_journal.specs.declared.note.Note.TheVariants as notes
 use Rattle.sbp_laws.specs.CauseLaw.{HasCauses}
 use Rattle.sbp_laws.specs.JudgementLaw.{Judges}
 use Rattle.sbp_laws.specs.LoginLaw.{HasLogins}
+use Rattle.sbp_laws.specs.MediaLaw.{HasPushes}
 use Rattle.sbp_laws.specs.OrderLaw.{is_cut}
 use Rattle.sbp_laws.specs.SentAnswers.{AnswersLaw}
 use Rattle.sbp_laws.specs.Turns.{EachMoment, EachTurn}
+use Rattle.sbp_laws.specs.Unasked.{NoneUnasked}
 use Rattle.drill_laws.specs.DrillSettles.{IsDrillRun}
 
 -- a note that tells of no operation, at either end
@@ -35,6 +37,8 @@ pub record IsLawfulDrill (disks : List Disk) (entries : List Entry) : Type 0 whe
   pub causes : EachTurn (HasCauses disks) (history entries)
   pub logins : EachTurn (HasLogins disks) (history entries)
   pub judges : EachTurn (Judges disks) (history entries)
+  pub asked : EachMoment (NoneUnasked disks) (history entries)
+  pub pushes : EachTurn (HasPushes disks) (history entries)
 
 -- what was said up to a moment
 abbrev pub IsCalmAt : Moment → List Moment → Type 0

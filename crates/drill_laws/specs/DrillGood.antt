@@ -22,6 +22,16 @@ IsWellAt moment past = Unit {0}
 abbrev pub RanWell : List Moment → Type 0
 RanWell past = EachMoment IsWellAt past
 
+-- no death of an agent
+abbrev pub IsDeathlessAt : Moment → List Moment → Type 0
+IsDeathlessAt (said (notes.Dead i list cause)) past = ⊥
+IsDeathlessAt moment past = Unit {0}
+
+-- no ORB that ended as a dummy
+abbrev pub IsUndummiedAt : Moment → List Moment → Type 0
+IsUndummiedAt (said (notes.Ended i list number kinds.Dummy)) past = ⊥
+IsUndummiedAt moment past = Unit {0}
+
 -- the laws of lists, the form of the notes, and that what ends as aborted was marked
 pub record KeepsLists (disks : List Disk) (past : List Moment) : Type 0 where
   pub lists : LawfulOnLists nobody disks past

@@ -13,12 +13,14 @@ use Rattle.sbp_journal.specs.declared.event.Action.TheVariants as actions
 use Rattle.sbp_journal.specs.declared.note.Note.TheVariants as notes
 use Rattle.sbp_laws.specs.Actions.{action_body, lacks_label, refusal_at}
 use Rattle.sbp_laws.specs.Hosts.{host_at, live}
+use Rattle.sbp_laws.specs.Lawful.{nobody}
 use Rattle.sbp_laws.specs.Lists.{linked, lowest_vacant, slots}
+use Rattle.sbp_laws.specs.OnLists.{LawfulOnLists}
 use Rattle.sbp_laws.specs.Terms.{appends}
 use Rattle.sbp_laws.specs.Turns.{EachMoment}
 use Rattle.drill_text.specs.Tally.{is_append}
 use Rattle.drill_laws.specs.DrillCalm.{IsLawfulDrill}
-use Rattle.drill_laws.specs.DrillGood.{KeepsLists, RanWell}
+use Rattle.drill_laws.specs.DrillGood.{IsDeathlessAt}
 use Rattle.drill_laws.specs.DrillLines.{append_lines, is_refused}
 use Rattle.drill_laws.specs.DrillSettles.{events_said}
 
@@ -56,12 +58,12 @@ abbrev pub HaveRoom : List Entry → Type 0
 HaveRoom [] = Unit {0}
 HaveRoom (entry ∷ before) = HasRoomFor (history before) entry.event × HaveRoom before
 
--- where nothing died, no ORB ended as a dummy, and each command ran well, no status tells of a dead agent
+-- where no agent died, no status tells of a dead one
 abbrev pub StaysAlive : List Disk → List Entry → Type 0
-StaysAlive disks entries = RanWell (history entries) → EachMoment IsUnstuckAt (history entries) → EachMoment IsAliveAt (history entries)
+StaysAlive disks entries = EachMoment IsDeathlessAt (history entries) → EachMoment IsUnstuckAt (history entries) → EachMoment IsAliveAt (history entries)
 
 pub record DrillsRefuseLittle : Type 0 where
-  pub alive : (disks : List Disk) (entries : List Entry) → IsLawfulDrill disks entries → KeepsLists disks (history entries) → StaysAlive disks entries
+  pub alive : (disks : List Disk) (entries : List Entry) → IsLawfulDrill disks entries → LawfulOnLists nobody disks (history entries) → StaysAlive disks entries
   pub ready : (disks : List Disk) (entries : List Entry) → IsLawfulDrill disks entries → EachMoment IsAliveAt (history entries) → (i : ℕ) → i < 2 → IsReadyFor (history entries) i
   pub refusal : (past : List Moment) (i : ℕ) (cmd : Cmd) → IsReadyFor past i → refusal_at past i (actions.Append cmd) ≡ lack_at past i cmd
 

@@ -15,3 +15,7 @@ pub mod DrillWrites
 pub mod DrillRefused
 pub mod DrillSlots
 pub mod DrillApart
+pub mod DrillFew
+pub mod DrillRoom
+pub mod DrillStuck
+pub mod DrillDone

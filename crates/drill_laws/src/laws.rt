@@ -4,14 +4,18 @@ ghost use Rattle.drill_laws.specs.DrillAppends.{AppendsAreTold};
 ghost use Rattle.drill_laws.specs.DrillBlocks.{DrillsWriteBlocks};
 ghost use Rattle.drill_laws.specs.DrillCalm.{DrillsAreCalm};
 ghost use Rattle.drill_laws.specs.DrillDisk.{CommandsPass};
+ghost use Rattle.drill_laws.specs.DrillFew.{DrillsLeaveFew};
+ghost use Rattle.drill_laws.specs.DrillDone.{DrillsAreDone};
 ghost use Rattle.drill_laws.specs.DrillGood.{DrillsAreGood};
 ghost use Rattle.drill_laws.specs.DrillQuiet.{DrillsAreQuiet};
 ghost use Rattle.drill_laws.specs.DrillRan.{DrillsRunWell};
 ghost use Rattle.drill_laws.specs.DrillRefused.{DrillsAppendAll, DrillsRefuseLittle};
+ghost use Rattle.drill_laws.specs.DrillRoom.{DrillsHaveRoom, DrillsHaveSlots, RunsRest};
 ghost use Rattle.drill_laws.specs.DrillRuns.{DrillsEnd};
 ghost use Rattle.drill_laws.specs.DrillScripts.{ScriptsAreDrills};
 ghost use Rattle.drill_laws.specs.DrillSettles.{DrillsSettle};
 ghost use Rattle.drill_laws.specs.DrillSlots.{SlotsLaw};
+ghost use Rattle.drill_laws.specs.DrillStuck.{DrillsStayUnstuck};
 ghost use Rattle.drill_laws.specs.DrillTaken.{DrillsTakeAll};
 ghost use Rattle.drill_laws.specs.DrillTakings.{TakingsLaw};
 ghost use Rattle.drill_laws.specs.DrillWrites.{LinesWriteBlocks};
@@ -66,12 +70,12 @@ pub fn drills_take_what_is_rung()
     ensures { DrillsTakeAll }
 {}
 
-/// What a lawful run over the generated script comes to. Each line that appends was told or refused; nothing
-/// was lost, each settle is `settled`, and at the end nothing is in flight; nothing was managed, and the
-/// commands are legal. There are no more `taken` than `append` notes, and as many where each rung ORB has its
-/// status; all are good where no agent died and each command ran well. Then, over a first medium that is as the
-/// commands need it, each block holds what the last ORB that writes it brought, and that is the ORB of the last
-/// line that does, where none was refused.
+/// What a lawful run over the generated script comes to. Each line that appends was told, none was refused, and
+/// each ORB has its status; nothing was lost, each settle is `settled`, and at the end nothing is in flight;
+/// nothing was managed, no agent died, and the commands are legal. Over a first medium that is as the commands need
+/// it, where no medium call of them failed, each command ran there and well, each status is good, and each block
+/// holds what the last line of the one initiator, or the last one of the other, that writes it brought, and what it
+/// held at the start if none does.
 #[tactic(auto, using(crate::proofs::DrillRuns::drills_end))]
 pub fn drills_end_at_rest()
     ensures { DrillsEnd }
@@ -119,8 +123,8 @@ pub fn lines_write_their_blocks()
 
 /// In a drill in which no session got stuck and no status of a dead agent was taken, each of the two initiators is
 /// logged in, has no operation under way, has linked what it appended, and sees no dead agent: so a line
-/// that appends is refused for want of a slot or of a label alone. Where nothing died, no ORB ended as a dummy, and
-/// each command ran well, no status tells of a dead agent.
+/// that appends is refused for want of a slot or of a label alone. Where no agent died, no status tells of a dead
+/// one.
 #[tactic(auto, using(crate::proofs::DrillRefused::drills_refuse_little))]
 pub fn drills_refuse_for_slots_and_labels()
     ensures { DrillsRefuseLittle }
@@ -145,4 +149,46 @@ pub fn slots_are_taken_one_by_one()
 #[tactic(auto, using(crate::proofs::DrillApart::slots_apart))]
 pub fn slots_hold_each_orb_once()
     ensures { SlotsApart }
+{}
+
+/// In a drill at most 40 requests of the target to each initiator are under way that are nobody's, at each moment:
+/// no agent is put into RESET, so one drops its read ahead at most, as it dies.
+#[tactic(auto, using(crate::proofs::DrillFew::drills_leave_few))]
+pub fn drills_leave_few_requests()
+    ensures { DrillsLeaveFew }
+{}
+
+/// In a run over the generated script of which each rung ORB completes behind each line, each settle leaves no ORB
+/// untaken, no agent dies, and each line that appends finds a slot and a label.
+#[tactic(auto, using(crate::proofs::DrillDone::drills_are_done))]
+pub fn drills_are_done()
+    ensures { DrillsAreDone }
+{}
+
+/// In a run over the generated script, in which no status tells of a dead agent and each settle leaves nothing
+/// untaken, a slot is free for each line that appends: behind a settle one is taken at most, and 16 lines at most
+/// append before the next one.
+#[tactic(auto, using(crate::proofs::DrillSlotsLeft::drills_have_slots))]
+pub fn drills_find_slots()
+    ensures { DrillsHaveSlots }
+{}
+
+/// In every run no request is under way, of any node, behind a line where nothing was lost and nothing is in flight.
+#[tactic(auto, using(crate::proofs::DrillRests::runs_rest))]
+pub fn runs_rest_where_still()
+    ensures { RunsRest }
+{}
+
+/// In such a run of the generated script a slot and a label are free for each line that appends: each such line sends one
+/// request at most, no request is under way behind a settle, and no two requests of an initiator are equal.
+#[tactic(auto, using(crate::proofs::DrillLabelsLeft::drills_have_room))]
+pub fn drills_find_room()
+    ensures { DrillsHaveRoom }
+{}
+
+/// In a drill over up to four units no session gets stuck: the target answers complete each write of ORB_POINTER and of
+/// DOORBELL, since an initiator writes ORB_POINTER once, and its agent is in RESET until then.
+#[tactic(auto, using(crate::proofs::DrillStuck::drills_stay_unstuck))]
+pub fn drills_get_no_session_stuck()
+    ensures { DrillsStayUnstuck }
 {}

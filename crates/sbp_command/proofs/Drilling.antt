@@ -25,7 +25,7 @@ use Rattle.script_runner.specs.Drilling.{Drilled}
 use Rattle.script_runner.proofs.LegalScripts.{legal_scripts_law}
 use Rattle.journal_text.proofs.Feeds.{trace_of_text}
 use Rattle.sbp_command.proofs.Completing.{serves}
-use Rattle.sbp_command.proofs.DrillEnds.{drill_ends, drill_tallied}
+use Rattle.sbp_command.proofs.DrillEnds.{drill_ends, drill_good, drill_tallied}
 use Rattle.sbp_command.proofs.Forms.{has_form}
 use Rattle.sbp_command.proofs.LegalRuns.{run_legal}
 use Rattle.sbp_command.proofs.Wires.{has_run}
@@ -47,6 +47,7 @@ drill_summed seed count asked commands start media now tally disk old output h s
       ran = ran;
       ends = ends;
       counts = drill_tallied count ran.line ran.run (journal d.run) ran.notes_are ends;
+      good = drill_good seed count now disk ran ends s;
       trace_is = trace_of_text (journal d.run) (has_form start media lines (journal d.run) ran);
       summed = s;
       output_is = e ∙ ap (λ lines. lines ++ summary_text (record { seed = seed; count = count; tally = tally; disk = disk })) n ∙ ap (λ t. summary_text (record { seed = seed; count = count; tally = t; disk = disk })) d.tally_is;

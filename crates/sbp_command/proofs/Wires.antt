@@ -4,6 +4,7 @@ use Rattle.std.specs.List.{AllByRecursion}
 use Rattle.std.proofs.lemmas.List.{length-append}
 use Rattle.sbp_journal.specs.declared.event.Event.{Event}
 use Rattle.sbp_world.specs.Completing.Deaths.{AreLegal}
+use Rattle.sbp_world.specs.Completing.Done.{AllRungComplete}
 use Rattle.sbp_world.specs.Histories.{history_of}
 use Rattle.sbp_world.specs.Runs.{AreEntries, Entry, Run, StandsFor, after, beginning}
 use Rattle.sbp_world.specs.Worlds.{WorldState}
@@ -14,8 +15,10 @@ use Rattle.journal_text.proofs.TextsBack.{texts_determine}
 use Rattle.sbp_world.specs.Forms.{AreTyped}
 use Rattle.sbp_command.proofs.Forms.{is_written}
 use Rattle.sbp_world.proofs.Lists.GrantRuns.{few_logins_law}
-use Rattle.sbp_world.specs.Lists.FewLogins.{IsTameOrFew}
+use Rattle.sbp_world.specs.Lists.FewLogins.{FewLogins, IsTameOrFew}
+use Rattle.sbp_world.specs.Lists.OwnLogins.{IsTame}
 use Rattle.sbp_world.specs.Wire.Lines.{AreLines}
+use Rattle.sbp_world.specs.Wire.Journal.{journal_run}
 use Rattle.sbp_world.specs.Wire.States.{AreOpenLists, AreStates}
 use Rattle.sbp_world.proofs.Wire.States.{are_open_lists, are_states}
 use Rattle.sbp_world.specs.Hosts.Runs.{IsRun}
@@ -63,11 +66,17 @@ module _ (line : ℕ) (run : Run) (few : run.initiators ≤ 4) (count : length r
       size : length run.start.disks ≡ run.units
       size = ap (λ (h : Held). length h.disks) same ∙ sym units
 
+      few_logins : FewLogins past
+      few_logins = few_logins_law.few line run is some most size (omega arith)
+
       given : IsTameOrFew past
-      given = inr (few_logins_law.few line run is some most size (omega arith))
+      given = inr few_logins
 
       run_laws : AllByRecursion AreTyped run.entries → IsLawfulRun line run
       run_laws typed = lawful_runs_law.lawful line run is some most size typed given
+
+      run_rung : AllByRecursion AreTyped run.entries → AreLegal past → IsTame past → AllRungComplete start.disks (journal_run line run).entries
+      run_rung typed legal tame = over (λ disks. AllRungComplete disks (journal_run line run).entries) ((run_laws typed).rung tame few_logins legal)
 
       run_states : AreStates start.disks past (after (beginning run) run.entries)
       run_states = over (λ disks. AreStates disks past (after (beginning run) run.entries)) (are_states line run is some most size)
@@ -87,6 +96,7 @@ has_run line run start media world happened same units some most few count event
       run = run;
       start_is = same;
       units_are = units;
+      machine = record { is = is line run few count stands.lines lines; some = some; most = most; size = ap (λ (held : Held). length held.disks) same ∙ sym units };
       lines_are = stands.lines;
       events_are = events;
       notes_are = refl;
@@ -95,6 +105,7 @@ has_run line run start media world happened same units some most few count event
       leaves = run_leaves line run start media same few stands.lines left;
       lawful = run_laws line run few count stands.lines lines start same units some most typed;
       legal = legal;
+      rung = run_rung line run few count stands.lines lines start same units some most typed legal;
       states = run_states line run few count stands.lines lines start same units some most;
       open_lists = run_open_lists line run few count stands.lines lines start same units some most;
       written = is_written run few stands.lines typed;
